@@ -1,0 +1,55 @@
+-- The judgement of a list of rules: two that it allows are one, it is 0 exactly if every rule is kept, and it is made rule after rule.
+use Prim.Native.Nat.{ℕ, _+_, _<_}
+use mathlib.Core.Path.{_≡_, refl, sym, ap, ap₂, _∙_}
+use mathlib.Core.Logic.{inl, inr}
+use mathlib.Core.List.{List, [], _∷_, _++_}
+use native.Mathlib.Omega.{arith}
+use lib.ListN.{length, drop}
+use Rattle.order.specs.Rule.{Rule, Shows, Kept, Judged, AllKept, Numbered}
+use Rattle.order.specs.Evidence.{Ruled, Given}
+use Rattle.order.proofs.Dictionaries.{firstly-unique}
+
+pub shows-unique : (q : Rule) (d e : List ℕ) → Shows q d → Shows q e → d ≡ e
+shows-unique q d e (v, p, x) (w, r, y) = x ∙ ap (q .shown) (firstly-unique (q .Breaks) v w p r) ∙ sym y
+
+-- two judgements that a list of rules allows are one
+pub judged-unique : (qs : List Rule) (a b : ℕ) (d e : List ℕ) → Judged qs a d → Judged qs b e → (a ≡ b) × (d ≡ e)
+judged-unique [] a b d e p q = (p .0 ∙ sym (q .0), p .1 ∙ sym (q .1))
+judged-unique (r ∷ rs) a b d e (inl p) (inl q) = (p .1 ∙ sym (q .1), shows-unique r d e (p .0) (q .0))
+judged-unique (r ∷ rs) a b d e (inl p) (inr q) = absurd (q .0 (p .0 .0) (p .0 .1 .has))
+judged-unique (r ∷ rs) a b d e (inr p) (inl q) = absurd (p .0 (q .0 .0) (q .0 .1 .has))
+judged-unique (r ∷ rs) a b d e (inr p) (inr q) = judged-unique rs a b d e (p .1) (q .1)
+
+-- answer 0: every rule is kept
+pub judged-zero : (qs : List Rule) (e : List ℕ) → Numbered qs → Judged qs 0 e → AllKept qs
+judged-zero [] e n p = tt
+judged-zero (q ∷ qs) e n (inl p) = let z = p .1 in let o = n .0 in absurd (omega arith)
+judged-zero (q ∷ qs) e n (inr p) = (p .0, judged-zero qs e (n .1) (p .1))
+
+pub zero-judged : (qs : List Rule) (a : ℕ) (e : List ℕ) → AllKept qs → Judged qs a e → (a ≡ 0) × (e ≡ [])
+zero-judged [] a e k p = p
+zero-judged (q ∷ qs) a e k (inl p) = absurd (k .0 (p .0 .0) (p .0 .1 .has))
+zero-judged (q ∷ qs) a e k (inr p) = zero-judged qs a e (k .1) (p .1)
+
+-- ---- a check, rule after rule
+pub rule-shown : (q : Rule) (qs : List Rule) (b a : List ℕ) (k : ℕ) → Ruled q b a k → 0 < k → Given (Judged (q ∷ qs)) b a (q .number) k
+rule-shown q qs b a k (inl (f, z, e)) l = absurd (omega arith)
+rule-shown q qs b a k (inr (e, s, l, w)) h = (e, inl (s, refl), w)
+
+pub rule-kept : (q : Rule) (b a : List ℕ) (k : ℕ) → Ruled q b a k → (0 < k → ⊥) → Kept q × (a ≡ b)
+rule-kept q b a k (inl (f, z, e)) l = (f, e)
+rule-kept q b a k (inr (e, s, l, w)) h = absurd (h l)
+
+pub given-next : (q : Rule) (qs : List Rule) (b a : List ℕ) (n k : ℕ) → Kept q → Given (Judged qs) b a n k → Given (Judged (q ∷ qs)) b a n k
+given-next q qs b a n k f (e, j, w) = (e, inr (f, j), w)
+
+pub given-none : (b : List ℕ) → Given (Judged []) b b 0 0
+given-none b = ([], (refl, refl), (refl, refl))
+
+-- two results that a judgement allows are one
+pub given-unique : (J : ℕ → List ℕ → Type 0) → ((a b : ℕ) (d e : List ℕ) → J a d → J b e → (a ≡ b) × (d ≡ e))
+    → (before x y : List ℕ) (a b k l : ℕ) → Given J before x a k → Given J before y b l → (a ≡ b) × (k ≡ l) × (x ≡ y)
+given-unique J u before x y a b k l (d, p, (kd, xd)) (e, q, (le, ye)) =
+    let (ab, de) = u a b d e p q in
+    let kl : k ≡ l = kd ∙ ap length de ∙ sym le in
+    (ab, kl, xd ∙ ap₂ _++_ de (ap (λ (z : ℕ). drop z before) kl) ∙ sym ye)

@@ -1,0 +1,71 @@
+-- Rules about cycles: the cycle that is shown is their evidence. One relation under two names has the same cycles.
+use Prim.Native.Nat.{ℕ, _<_, _≤_}
+use mathlib.Core.Path.{_≡_, refl}
+use mathlib.Core.Logic.{_⊎_, inl, inr}
+use mathlib.Core.List.{List, [], _∷_}
+use native.Mathlib.Omega.{arith}
+use native.Mathlib.Decide.{decLt}
+use lib.ListN.{length}
+use Rattle.order.specs.Relation.{Rel, Trail, Cycle, Cyclic}
+use Rattle.order.specs.Dictionary.{Lex, Firstly}
+use Rattle.order.specs.Shown.{Shown}
+use Rattle.order.specs.Rule.{Shows, Kept, Round, Rounds, cycleRule, cyclesRule}
+use Rattle.order.proofs.Dictionaries.{firstly-cons}
+
+module _ (R : Rel) where
+  pub shown-first : (l : List ℕ) → Shown R l → Firstly (Round R) (length l ∷ l)
+  shown-first l s = record { has = (refl, s .cycle, s .begun); least = go }
+    where
+      go : (m : List ℕ) → Round R m → Lex (length l ∷ l) m
+      go [] h = absurd h
+      go (k ∷ m) (e, r, b) = at (decLt (length l) k) (s .shortest m r)
+        where
+          at : Dec (length l < k) → length l ≤ length m → (length l < k) ⊎ ((length l ≡ k) × Lex l m)
+          at (yes h) g = inl h
+          at (no h) g = inr (omega arith, s .least m r (omega arith) b)
+
+  pub round-cyclic : (w : List ℕ) → Round R w → Cyclic R
+  round-cyclic [] h = absurd h
+  round-cyclic (k ∷ l) (e, r, b) = (l, r)
+
+  module _ (number : ℕ) where
+    pub cycle-kept : (Cyclic R → ⊥) → Kept (cycleRule number R)
+    cycle-kept f w r = f (round-cyclic w r)
+
+    pub cycle-shown : (l : List ℕ) → Shown R l → Shows (cycleRule number R) l
+    cycle-shown l s = (length l ∷ l, shown-first l s, refl)
+
+module _ (number n : ℕ) (R : ℕ → Rel) where
+  pub cycles-kept : ((p : ℕ) → p < n → Cyclic (R p) → ⊥) → Kept (cyclesRule number n R)
+  cycles-kept f [] q = q
+  cycles-kept f (p ∷ w) (l, r) = f p l (round-cyclic (R p) w r)
+
+  pub cycles-shown : (p : ℕ) (l : List ℕ) → p < n → ((q : ℕ) → q < p → Cyclic (R q) → ⊥) → Shown (R p) l
+      → Shows (cyclesRule number n R) (p ∷ l)
+  cycles-shown p l h f s = (p ∷ length l ∷ l, firstly-cons (Rounds n R) p (length l ∷ l) (λ z. z) before here, refl)
+    where
+      before : (k : ℕ) → k < p → (m : List ℕ) → Rounds n R (k ∷ m) → ⊥
+      before k g m q = f k g (round-cyclic (R k) m (q .1))
+
+      here : Firstly (λ m. Rounds n R (p ∷ m)) (length l ∷ l)
+      here = let e = shown-first (R p) l s in record { has = (h, e .has); least = λ m q. e .least m (q .1) }
+
+module _ (R Q : Rel) (f : (a b : ℕ) → R a b → Q a b) where
+  trail-as : (a : ℕ) (l : List ℕ) (b : ℕ) → Trail R a l b → Trail Q a l b
+  trail-as a [] b r = f a b r
+  trail-as a (c ∷ l) b (r, t) = (f a c r, trail-as c l b t)
+
+  pub cycle-as : (l : List ℕ) → Cycle R l → Cycle Q l
+  cycle-as [] r = r
+  cycle-as (a ∷ l) r = trail-as a l a r
+
+  pub cyclic-as : Cyclic R → Cyclic Q
+  cyclic-as (l, r) = (l, cycle-as l r)
+
+pub shown-as : (R Q : Rel) → ((a b : ℕ) → R a b → Q a b) → ((a b : ℕ) → Q a b → R a b) → (l : List ℕ) → Shown R l → Shown Q l
+shown-as R Q f g l s = record {
+  cycle = cycle-as R Q f l (s .cycle);
+  shortest = λ m r. s .shortest m (cycle-as Q R g m r);
+  begun = s .begun;
+  least = λ m r e b. s .least m (cycle-as Q R g m r) e b;
+}

@@ -1,0 +1,87 @@
+-- A search below n, number by number, and how such searches nest.
+use Prim.Native.Nat.{ℕ, zero, suc, _+_, _<_, _≤_}
+use mathlib.Core.Path.{_≡_, refl}
+use mathlib.Core.Logic.{_⊎_, inl, inr, ⊎-elim}
+use mathlib.Core.List.{List, [], _∷_, _++_}
+use lib.ListN.{length, set, drop}
+use native.Mathlib.Decide.{decLt}
+use native.Mathlib.Omega.{arith}
+use Rattle.order.specs.Least.{None, Hit}
+use Rattle.order.specs.Dictionary.{Firstly}
+use Rattle.order.specs.Rule.{About, Of, Any, rule}
+use Rattle.order.specs.Evidence.{Ruled, Written}
+use Rattle.order.proofs.Numbers.{last-or}
+use Rattle.order.proofs.Dictionaries.{firstly-nil, firstly-cons}
+
+pub of-any : (n : ℕ) (P : About n) (w : List ℕ) → Of n P w → Any n P
+of-any zero P [] h = h
+of-any zero P (x ∷ w) h = absurd h
+of-any (suc n) P [] h = absurd h
+of-any (suc n) P (x ∷ w) h = (x, of-any n (P x) w h)
+
+-- a found number goes before what is found after it
+pub then-found : (n j : ℕ) (P : About (suc j)) (r : ℕ) (w : List ℕ) → Hit n (λ k. Any j (P k)) r
+    → Firstly (Of j (P r)) w → Firstly (Of (suc j) P) (r ∷ w)
+then-found n j P r w h f =
+    firstly-cons (Of (suc j) P) r w (λ z. z) (λ k l m q. h .none k l (of-any j (P k) m q)) f
+
+-- the last number
+pub last-found : (n : ℕ) (P : About 1) (r : ℕ) → Hit n P r → r < n → Firstly (Of 1 P) (r ∷ [])
+last-found n P r h l = then-found n 0 P r [] h (firstly-nil (Of 0 (P r)) (h .hit l))
+
+-- nothing is found where there is nothing past n
+pub not-found : (n j : ℕ) (P : About (suc j)) (r : ℕ) → ((k : ℕ) → Any j (P k) → k < n) → Hit n (λ k. Any j (P k)) r → n ≤ r
+    → (w : List ℕ) → Of (suc j) P w → ⊥
+not-found n j P r b h l w q =
+    let a = of-any (suc j) P w q in let lt = b (a .0) (a .1) in h .none (a .0) (omega arith) (a .1)
+
+-- a search's loop: none so far, one more, found, and the end
+module _ (P : ℕ → Type 0) where
+  pub none-yet : None 0 P
+  none-yet k h p = absurd (omega arith)
+
+  pub none-next : (i : ℕ) → None i P → (P i → ⊥) → None (i + 1) P
+  none-next i f q k h p = ⊎-elim (λ (e : k ≡ i). q (rw e at p)) (λ l. f k l p) (last-or i k (omega arith))
+
+  pub hit-at : (n i : ℕ) → None i P → i < n → P i → Hit n P i
+  hit-at n i f l p = record { most = omega arith; none = f; hit = λ h. p }
+
+  pub hit-not : (n i : ℕ) → None i P → n ≤ i → Hit n P n
+  hit-not n i f l = record { most = omega arith; none = λ k h p. f k (omega arith) p; hit = λ h. absurd (omega arith) }
+
+  -- a hit under another name for its property
+  pub hit-as : (Q : ℕ → Type 0) (n r : ℕ) → ((k : ℕ) → P k → Q k) → ((k : ℕ) → Q k → P k) → Hit n P r → Hit n Q r
+  hit-as Q n r f g h = record { most = h .most; none = λ k l q. h .none k l (g k q); hit = λ l. f r (h .hit l) }
+
+-- a search that must find does
+pub found-less : (n r k : ℕ) (P : ℕ → Type 0) → Hit n P r → P k → k < n → r < n
+found-less n r k P h p l = go (decLt r n)
+  where
+    go : Dec (r < n) → r < n
+    go (yes g) = g
+    go (no g) = absurd (h .none k (omega arith) p)
+
+-- what a rule's search hands out
+pub rule-none : (a n j : ℕ) (P : About (suc j)) (r : ℕ) (b : List ℕ) → ((k : ℕ) → Any j (P k) → k < n) → Hit n (λ k. Any j (P k)) r → n ≤ r
+    → Ruled (rule a (suc j) P) b b 0
+rule-none a n j P r b f h l = inl (not-found n j P r f h l, refl, refl)
+
+pub rule-found : (a n : ℕ) (P : About n) (w b c : List ℕ) (k : ℕ) → Firstly (Of n P) w → 0 < k → Written w b c k → Ruled (rule a n P) b c k
+rule-found a n P w b c k f l h = inr (w, (w, f, refl), l, h)
+
+-- entries written at the front of a buffer
+pub put-one : (x : ℕ) (l : List ℕ) → 1 ≤ length l → set l 0 x ≡ (x ∷ []) ++ drop 1 l
+put-one x [] h = absurd (omega arith)
+put-one x (a ∷ l) h = refl
+
+pub put-two : (x y : ℕ) (l : List ℕ) → 2 ≤ length l → set (set l 0 x) 1 y ≡ (x ∷ y ∷ []) ++ drop 2 l
+put-two x y [] h = absurd (omega arith)
+put-two x y (a ∷ []) h = absurd (omega arith)
+put-two x y (a ∷ b ∷ l) h = refl
+
+pub put-four : (x y z w : ℕ) (l : List ℕ) → 4 ≤ length l → set (set (set (set l 0 x) 1 y) 2 z) 3 w ≡ (x ∷ y ∷ z ∷ w ∷ []) ++ drop 4 l
+put-four x y z w [] h = absurd (omega arith)
+put-four x y z w (a ∷ []) h = absurd (omega arith)
+put-four x y z w (a ∷ b ∷ []) h = absurd (omega arith)
+put-four x y z w (a ∷ b ∷ c ∷ []) h = absurd (omega arith)
+put-four x y z w (a ∷ b ∷ c ∷ d ∷ l) h = refl

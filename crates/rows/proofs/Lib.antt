@@ -1,0 +1,3 @@
+pub mod Bits
+pub mod Members
+pub mod Table
