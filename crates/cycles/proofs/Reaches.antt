@@ -11,52 +11,13 @@ use Rattle.rows.specs.declared.Set.{Set}
 use Rattle.rows.proofs.Members.{dec-in, is-as, subset-less}
 use Rattle.cycles.specs.Search.{Into}
 
--- r has the members of `from` that are not in `rest` any more and have a step into w
-pub record Backing (t : List ℕ) (from w rest r : Set) : Type 0 where
-  pub part : (a : ℕ) → In rest a → In from a
-  pub is : Is r (λ a. In from a × (In rest a → ⊥) × Into (rel t) w a)
+-- a row that meets w: a step into w
+module _ (t : List ℕ) (w : Set) (a : ℕ) (row : Set) (i : Is row (rel t a)) where
+  pub meet-into : Meet row w → Into (rel t) w a
+  meet-into (b, x, y) = (b, y, i .says b x)
 
-module _ (t : List ℕ) (from w : Set) where
-  pub back-begin : (r : Set) → Is r (λ k. ⊥) → Backing t from w from r
-  back-begin r i = record { part = λ a m. m; is = record { says = λ a m. absurd (i .says a m); has = λ a q. absurd (q .1 (q .0)) } }
-
-  module _ (rest r : Set) (p : Backing t from w rest r) (a : ℕ) (m : In rest a) (less : Set) (k : Is less (λ j. In rest j × (j ≡ a → ⊥))) where
-    kept : (x : ℕ) → In from x × (In rest x → ⊥) × Into (rel t) w x → In from x × (In less x → ⊥) × Into (rel t) w x
-    kept x q = (q .0, (λ l. q .1 (k .says x l .0)), q .2)
-
-    -- out of what is left: it was before, or it is a
-    out : (x : ℕ) → In from x × (In less x → ⊥) × Into (rel t) w x → In r x ⊎ (x ≡ a)
-    out x q = go (dec-in rest x) (ℕ-discrete x a)
-      where
-        go : Dec (In rest x) → Dec (x ≡ a) → In r x ⊎ (x ≡ a)
-        go (no g) d = inl (p .is .has x (q .0, g, q .2))
-        go (yes h) (yes e) = inr e
-        go (yes h) (no g) = absurd (q .1 (k .has x (h, g)))
-
-    part : (x : ℕ) → In less x → In from x
-    part x l = p .part x (k .says x l .0)
-
-    module _ (row : Set) (i : Is row (rel t a)) where
-      pub back-more : Meet row w → (one both : Set) → Is one (λ j. j ≡ a) → Is both (λ x. In r x ⊎ In one x) → Backing t from w less both
-      back-more (b, x, y) one both o u = record {
-        part = part;
-        is = record {
-          says = λ c z. ⊎-elim (λ q. kept c (p .is .says c q)) (λ q. let e = o .says c q in rw e (p .part a m, (λ l. k .says a l .1 refl), (b, y, i .says b x))) (u .says c z);
-          has = λ c q. u .has c (⊎-elim (λ z. inl z) (λ e. inr (o .has c e)) (out c q));
-        };
-      }
-
-      pub back-skip : (Meet row w → ⊥) → Backing t from w less r
-      back-skip g = record {
-        part = part;
-        is = record {
-          says = λ c z. kept c (p .is .says c z);
-          has = λ c q. ⊎-elim (λ z. z) (λ (e : c ≡ a). let s : Into (rel t) w a = rw e at (q .2) in absurd (g (s .0, i .has (s .0) (s .2), s .1))) (out c q);
-        };
-      }
-
-  pub back-done : (rest r : Set) → Backing t from w rest r → (Member rest → ⊥) → Is r (λ a. In from a × Into (rel t) w a)
-  back-done rest r p g = is-as r _ _ (λ a q. (q .0, q .2)) (λ a q. (q .0, (λ l. g (a, l)), q .1)) (p .is)
+  pub into-meet : Into (rel t) w a → Meet row w
+  into-meet (b, y, x) = (b, i .has b x, y)
 
 -- ---- from all sides
 

@@ -14,6 +14,7 @@ shows-unique q d e (v, p, x) (w, r, y) = x ∙ ap (q .shown) (firstly-unique (q 
 
 -- two judgements that a list of rules allows are one
 pub judged-unique : (qs : List Rule) (a b : ℕ) (d e : List ℕ) → Judged qs a d → Judged qs b e → (a ≡ b) × (d ≡ e)
+unfolding Judged
 judged-unique [] a b d e p q = (p .0 ∙ sym (q .0), p .1 ∙ sym (q .1))
 judged-unique (r ∷ rs) a b d e (inl p) (inl q) = (p .1 ∙ sym (q .1), shows-unique r d e (p .0) (q .0))
 judged-unique (r ∷ rs) a b d e (inl p) (inr q) = absurd (q .0 (p .0 .0) (p .0 .1 .has))
@@ -22,17 +23,20 @@ judged-unique (r ∷ rs) a b d e (inr p) (inr q) = judged-unique rs a b d e (p .
 
 -- answer 0: every rule is kept
 pub judged-zero : (qs : List Rule) (e : List ℕ) → Numbered qs → Judged qs 0 e → AllKept qs
+unfolding Judged
 judged-zero [] e n p = tt
 judged-zero (q ∷ qs) e n (inl p) = let z = p .1 in let o = n .0 in absurd (omega arith)
 judged-zero (q ∷ qs) e n (inr p) = (p .0, judged-zero qs e (n .1) (p .1))
 
 pub zero-judged : (qs : List Rule) (a : ℕ) (e : List ℕ) → AllKept qs → Judged qs a e → (a ≡ 0) × (e ≡ [])
+unfolding Judged
 zero-judged [] a e k p = p
 zero-judged (q ∷ qs) a e k (inl p) = absurd (k .0 (p .0 .0) (p .0 .1 .has))
 zero-judged (q ∷ qs) a e k (inr p) = zero-judged qs a e (k .1) (p .1)
 
 -- ---- a check, rule after rule
 pub rule-shown : (q : Rule) (qs : List Rule) (b a : List ℕ) (k : ℕ) → Ruled q b a k → 0 < k → Given (Judged (q ∷ qs)) b a (q .number) k
+unfolding Judged
 rule-shown q qs b a k (inl (f, z, e)) l = absurd (omega arith)
 rule-shown q qs b a k (inr (e, s, l, w)) h = (e, inl (s, refl), w)
 
@@ -41,9 +45,11 @@ rule-kept q b a k (inl (f, z, e)) l = (f, e)
 rule-kept q b a k (inr (e, s, l, w)) h = absurd (h l)
 
 pub given-next : (q : Rule) (qs : List Rule) (b a : List ℕ) (n k : ℕ) → Kept q → Given (Judged qs) b a n k → Given (Judged (q ∷ qs)) b a n k
+unfolding Judged
 given-next q qs b a n k f (e, j, w) = (e, inr (f, j), w)
 
 pub given-none : (b : List ℕ) → Given (Judged []) b b 0 0
+unfolding Judged
 given-none b = ([], (refl, refl), (refl, refl))
 
 -- two results that a judgement allows are one

@@ -8,8 +8,8 @@ use native.Mathlib.Decide.{decLt}
 use native.Mathlib.Omega.{arith}
 use Rattle.order.specs.Least.{None, Hit}
 use Rattle.order.specs.Dictionary.{Firstly}
-use Rattle.order.specs.Rule.{About, Of, Any, rule}
-use Rattle.order.specs.Evidence.{Ruled, Written}
+use Rattle.order.specs.Rule.{Rule, Judged, About, Of, Any, rule, entryRule}
+use Rattle.order.specs.Evidence.{Ruled, Written, Given}
 use Rattle.order.proofs.Numbers.{last-or}
 use Rattle.order.proofs.Dictionaries.{firstly-nil, firstly-cons}
 
@@ -85,3 +85,34 @@ put-four x y z w (a ∷ []) h = absurd (omega arith)
 put-four x y z w (a ∷ b ∷ []) h = absurd (omega arith)
 put-four x y z w (a ∷ b ∷ c ∷ []) h = absurd (omega arith)
 put-four x y z w (a ∷ b ∷ c ∷ d ∷ l) h = refl
+
+-- ---- a search that is a rule's
+
+module _ (a n : ℕ) (P : ℕ → Type 0) (r : ℕ) (h : Hit n P r) where
+  -- found: the rule is broken, and r is its evidence
+  pub one-shown : r < n → (qs : List Rule) (b : List ℕ) → 1 ≤ length b → Given (Judged (rule a 1 P ∷ qs)) b (set b 0 r) a 1
+  unfolding Judged
+  one-shown l qs b k = (r ∷ [], inl ((r ∷ [], last-found n P r h l, refl), refl), (refl, put-one r b k))
+
+  -- the same of an entry, of which two numbers are shown
+  pub entry-shown : r < n → (show : ℕ → List ℕ) (x y : ℕ) → x ∷ y ∷ [] ≡ show r → (qs : List Rule) (b : List ℕ) → 2 ≤ length b
+      → Given (Judged (entryRule a P show ∷ qs)) b (set (set b 0 x) 1 y) a 2
+  unfolding Judged
+  entry-shown l show x y e qs b k = (x ∷ y ∷ [], inl ((r ∷ [], last-found n P r h l, e), refl), (refl, put-two x y b k))
+
+  -- not found: nothing breaks the rule
+  pub one-kept : n ≤ r → ((k : ℕ) → P k → k < n) → (w : List ℕ) → Of 1 P w → ⊥
+  one-kept l f = not-found n 0 P r f h l
+
+-- two searches, the second at what the first found
+module _ (a n : ℕ) (P : About 2) (x : ℕ) (h : Hit n (λ k. Any 1 (P k)) x) where
+  pub two-shown : (y : ℕ) → Hit n (P x) y → x < n → ((k : ℕ) → P x k → k < n) → (qs : List Rule) (b : List ℕ) → 2 ≤ length b
+      → Given (Judged (rule a 2 P ∷ qs)) b (set (set b 0 x) 1 y) a 2
+  unfolding Judged
+  two-shown y g l f qs b k =
+      let s = h .hit l in
+      let m : y < n = found-less n y (s .0) (P x) g (s .1) (f (s .0) (s .1)) in
+      (x ∷ y ∷ [], inl ((x ∷ y ∷ [], then-found n 1 P x (y ∷ []) h (last-found n (P x) y g m), refl), refl), (refl, put-two x y b k))
+
+  pub two-kept : n ≤ x → ((j k : ℕ) → P j k → j < n) → (w : List ℕ) → Of 2 P w → ⊥
+  two-kept l f = not-found n 1 P x (λ j q. f j (q .0) (q .1)) h l

@@ -23,7 +23,7 @@ abbrev pub Kept : Rule → Type 0
 Kept q = (w : List ℕ) → q .Breaks w → ⊥
 
 -- the judgement: the number of the first rule that is broken, with its evidence; else 0 without
-abbrev pub Judged : List Rule → ℕ → List ℕ → Type 0
+unfoldable pub Judged : List Rule → ℕ → List ℕ → Type 0
 Judged [] a e = (a ≡ 0) × (e ≡ [])
 Judged (q ∷ qs) a e = (Shows q e × (a ≡ q .number)) ⊎ (Kept q × Judged qs a e)
 
@@ -59,6 +59,14 @@ Any (suc n) P = (k : ℕ) × Any n (P k)
 -- no n numbers have P; the evidence is the least of them
 abbrev pub rule : ℕ → (n : ℕ) → About n → Rule
 rule a n P = record { number = a; Breaks = Of n P; shown = λ w. w }
+
+-- no entry has P; the evidence is what is shown of the first that has
+abbrev pub shownFirst : (ℕ → List ℕ) → List ℕ → List ℕ
+shownFirst show [] = []
+shownFirst show (i ∷ w) = show i
+
+abbrev pub entryRule : ℕ → (ℕ → Type 0) → (ℕ → List ℕ) → Rule
+entryRule a P show = record { number = a; Breaks = Of 1 P; shown = shownFirst show }
 
 -- ---- rules about cycles
 

@@ -1,11 +1,11 @@
 -- Tables: steps added row by row.
-use Prim.Native.Nat.{ℕ, _+_, _^_, _<_}
+use Prim.Native.Nat.{ℕ, zero, suc, _+_, _^_, _<_}
 use mathlib.Core.Path.{_≡_, refl, sym, ap, _∙_}
 use mathlib.Core.List.{List}
 use mathlib.Core.Logic.{_⊎_, _↔_, inl, inr, ⊎-elim}
 use native.Mathlib.Omega.{arith}
 use native.Mathlib.Decide.{ℕ-discrete}
-use lib.ListN.{getD, set, length, length-set}
+use lib.ListN.{getD, set, length, length-set, replicate}
 use lib.Seq.{getD-set-same, getD-set-other}
 use lib.Bits.{bitOr, or-zero-r}
 use Rattle.order.specs.Relation.{Rel}
@@ -13,7 +13,7 @@ use Rattle.order.proofs.Numbers.{last-or}
 use Rattle.rows.specs.Members.{In, Is}
 use Rattle.rows.specs.Table.{rowOf, rel, Adds}
 use Rattle.rows.specs.declared.Set.{Set}
-use Rattle.rows.proofs.Members.{word, is-union, dec-in, none-zero}
+use Rattle.rows.proofs.Members.{word, is-none, is-union, dec-in, none-zero}
 
 pub is-row : (t : List ℕ) (a : ℕ) → Is (rowOf t a) (rel t a)
 unfolding rel
@@ -92,3 +92,13 @@ module _ (t s : List ℕ) where
       (λ x y q. ⊎-elim (λ p. (omega arith, p .1)) (λ p. (omega arith, rw (p .0) (i .says y (p .1)))) q)
       (λ x y q. ⊎-elim (λ (f : x ≡ n). inr (f, i .has y (rw f at (q .1)))) (λ l. inl (l, q .1)) (last-or n x (omega arith)))
       (adds-then t u v _ _ d e)
+
+-- a table of empty rows has no step
+zeros-row : (n a : ℕ) → _≡_ {A = ℕ} (getD (replicate n 0) a 0) 0
+zeros-row zero a = refl
+zeros-row (suc n) zero = refl
+zeros-row (suc n) (suc a) = zeros-row n a
+
+pub zeros-rel : (n a b : ℕ) → rel (replicate n 0) a b → ⊥
+unfolding rel
+zeros-rel n a b r = let e : rowOf (replicate n 0) a ≡ word 0 = ap word (zeros-row n a) in is-none .says b (rw e at r)

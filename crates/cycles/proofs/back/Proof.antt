@@ -2,12 +2,15 @@ use mathlib.Core.Logic.{⊎-elim}
 use borrow.Author.Needs.{needs}
 use Rattle.rows.specs.Members.{value}
 use Rattle.rows.proofs.Members.{in-low, first-in, taken-less}
-use Rattle.cycles.proofs.Reaches.{Backing, back-begin, back-more, back-skip, back-done}
+use Rattle.rows.proofs.Filters.{Filtering, filter-begin, filter-more, filter-skip, filter-done}
+use Rattle.rows.specs.Table.{rel}
+use Rattle.cycles.specs.Search.{Into}
+use Rattle.cycles.proofs.Reaches.{meet-into, into-meet}
 use Rattle.cycles.proofs.back.Statement.{statement}
 use Rattle.cycles.proofs.back.Tie as tie
 
 abbrev Inv-loop : tie.InvT-loop
-Inv-loop t w rest₀ r₀ rest r = Backing t rest₀ w rest r
+Inv-loop t w rest₀ r₀ rest r = Filtering (Into (rel t) w) rest₀ rest r
 
 abbrev μ-loop : tie.MeasureT-loop
 μ-loop t w rest₀ r₀ rest r = value rest
@@ -16,7 +19,7 @@ none-requires : tie.Need-none-requires Inv-loop μ-loop
 none-requires c κs = search needs
 
 loop-holds : tie.Need-loop-holds Inv-loop μ-loop
-loop-holds c = back-begin _ _ _ _ (c .none .ensures)
+loop-holds c = filter-begin _ _ _ (c .none .ensures)
 
 any-requires : tie.Need-any-requires Inv-loop μ-loop
 any-requires c κs = search needs
@@ -53,12 +56,12 @@ loop-again c = let b = c .before .before .before .before in
     let i = c .before .before .before .row .ensures in
     let d = c .before .before .meets .ensures in
     ⊎-elim
-    (λ w. rw (w .3) (back-more _ _ _ _ _ p _ m _ (c .without .ensures) _ i (d .holds (w .0 .taken)) _ _ (w .1 .ensures) (w .2 .ensures)))
-    (λ w. rw (w .1) (back-skip _ _ _ _ _ p _ m _ (c .without .ensures) _ i (d .fails (w .0 .left))))
+    (λ w. rw (w .3) (filter-more _ _ _ _ p _ m _ (c .without .ensures) (meet-into _ _ _ _ i (d .holds (w .0 .taken))) _ _ (w .1 .ensures) (w .2 .ensures)))
+    (λ w. rw (w .1) (filter-skip _ _ _ _ p _ m _ (c .without .ensures) (λ q. d .fails (w .0 .left) (into-meet _ _ _ _ i q))))
     (c .before .if2 .came)
 
 returns : tie.Need-returns Inv-loop μ-loop
-returns c = back-done _ _ _ _ _ (c .before .before .loop .inv) (c .before .any .ensures .fails (c .if1 .left))
+returns c = filter-done _ _ _ _ (c .before .before .loop .inv) (c .before .any .ensures .fails (c .if1 .left))
 
 pub back-spec : {M : Type 1} → statement M
 back-spec =

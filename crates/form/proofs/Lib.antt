@@ -1,0 +1,7 @@
+pub mod Branches
+pub mod Cases
+pub mod Numbers
+pub mod Rights
+pub mod Runs
+pub mod Starts
+pub mod WholeBranches

@@ -1,0 +1,48 @@
+use Rattle.form.proofs.Rights.{due-well}
+use native.Mathlib.Omega.{arith}
+use Rattle.form.proofs.Branches.{block-over, block-stop, block-next}
+use borrow.Author.Needs.{needs}
+use Rattle.form.proofs.chain.block.Statement.{statement}
+use Rattle.form.proofs.chain.block.Tie as tie
+
+due-requires : tie.Need-due-requires
+due-requires c κs = search needs
+
+enum-known-f : tie.Need-enum-known-f
+enum-known-f c = search needs
+
+enum-known-a : tie.Need-enum-known-a
+enum-known-a c = search needs
+
+num2-requires : tie.Need-num2-requires
+num2-requires c κs = let a = c .before .before .before .before .before .args in
+    due-well (a .s .now) (a .k) 2 (a .at) (c .before .a .given .0 .0) (cc) .0
+
+limit-requires : tie.Need-limit-requires
+limit-requires c κs = search needs
+
+returns : tie.Need-returns
+returns c = block-over _ _ _ _ (c .before .before .before .before .a .given .0 .0) (cc) (omega arith)
+
+entries-requires : tie.Need-entries-requires
+entries-requires c κs = search needs
+
+returns-2 : tie.Need-returns-2
+returns-2 c = block-stop _ _ _ _ _ (cc)
+
+returns-3 : tie.Need-returns-3
+returns-3 c = block-next _ _ _ _ (c .before .before .before .before .before .a .given .0 .0) (cc) (omega arith) _ (cc)
+
+pub block-spec : {M : Type 1} → statement M
+block-spec =
+    tie.close
+    (tie.spec
+    due-requires
+    enum-known-f
+    enum-known-a
+    num2-requires
+    limit-requires
+    returns
+    entries-requires
+    returns-2
+    returns-3)

@@ -1,0 +1,6 @@
+pub mod Bytes
+pub mod Form
+pub mod Place
+pub mod Right
+pub mod Steps
+pub mod Whole

@@ -1,0 +1,218 @@
+// Readings of slot case S1, cut at every length and with every byte in turn set to 255, and of records at the limits of
+// sections 2 and 4: a line each, with the answer, how many entries its evidence has, and these.
+ghost use mathlib.Core.Path.{_≡_};
+ghost use Prim.Native.Nat.{_+_, _*_, _≤_, _<_};
+ghost use lib.ListN.{length};
+use form::Step;
+use libc::STDOUT_FILENO;
+
+const S1: [u8; 102] = [
+    1,
+    2,
+    4,
+    0,
+    0,
+    1,
+    0,
+    0,
+    100,
+    0,
+    0,
+    0,
+    1,
+    0,
+    0,
+    0,
+    0,
+    0,
+    1,
+    0,
+    200,
+    0,
+    0,
+    0,
+    0,
+    0,
+    0,
+    0,
+    1,
+    1,
+    0,
+    0,
+    200,
+    0,
+    0,
+    0,
+    1,
+    0,
+    0,
+    0,
+    1,
+    0,
+    1,
+    0,
+    100,
+    0,
+    0,
+    0,
+    0,
+    0,
+    0,
+    0,
+    0,
+    0,
+    0,
+    0,
+    2,
+    0,
+    0,
+    0,
+    0,
+    0,
+    100,
+    0,
+    0,
+    0,
+    0,
+    0,
+    0,
+    0,
+    0,
+    0,
+    0,
+    0,
+    200,
+    0,
+    0,
+    0,
+    0,
+    0,
+    0,
+    0,
+    2,
+    0,
+    0,
+    2,
+    0,
+    0,
+    0,
+    0,
+    2,
+    0,
+    3,
+    0,
+    0,
+    1,
+    2,
+    3,
+    0,
+    2,
+    3,
+    0,
+];
+
+fn wide(x: u16) -> u64 {
+    x as u64
+}
+
+fn print_number(x: u64) {
+    io::write_all(STDOUT_FILENO, b" ");
+    io::print_decimal(STDOUT_FILENO, x);
+}
+
+// Prints the first k numbers.
+fn print_list(l: &[u16], k: usize) {
+    let mut i = 0;
+    while i < l.len() {
+        if i == k {
+            return;
+        }
+        print_number(wide(l[i]));
+        i += 1;
+    }
+}
+
+// One line: what reading and the structure rules answer.
+fn print_examined(name: &[u8], number: usize, s: &[u8]) {
+    let mut ev = [0u16; 65];
+    let v = record::examine::examine(s, &mut ev);
+    let k = v.count;
+    io::write_all(STDOUT_FILENO, name);
+    print_number(number as u64);
+    print_number(wide(v.answer));
+    print_number(k as u64);
+    print_list(&ev, k);
+    io::write_all(STDOUT_FILENO, b"\n");
+}
+
+// One line: what reading answers.
+fn print_read(name: &[u8], number: usize, s: &[u8]) {
+    io::write_all(STDOUT_FILENO, name);
+    print_number(number as u64);
+    match form::whole::whole(s) {
+        Step::Stop(f) => {
+            print_number(wide(f.answer));
+            print_number(1);
+            print_number(wide(f.section));
+        }
+        Step::Next(_) => {
+            print_number(0);
+            print_number(0);
+        }
+    }
+    io::write_all(STDOUT_FILENO, b"\n");
+}
+
+fn print_cuts(s: &[u8]) {
+    let mut k = 0;
+    while k < s.len() {
+        print_examined(b"cut", k, &s[..k]);
+        k += 1;
+    }
+}
+
+fn print_damaged(i: usize)
+    requires { ⌜ i < 102 ⌝ }
+{
+    let mut t = S1;
+    t[i] = 255;
+    print_examined(b"byte", i, &t);
+}
+
+fn print_all_damaged() {
+    let mut i = 0;
+    while i < 102 {
+        print_damaged(i);
+        i += 1;
+    }
+}
+
+// One processor with n loads of address 0 by its instruction 0, which is named g times as locked: all bytes but these are 0.
+fn print_limit(name: &[u8], number: usize, n: usize, g: usize)
+    requires { ⌜ (n ≤ 65) × (g ≤ 17) ⌝ }
+{
+    let mut t = [0u8; 1024];
+    t[0] = 1;
+    t[1] = 1;
+    t[2] = n as u8;
+    t[6 + 12 * n] = g as u8;
+    let nine = 4 + 12 * n + 12 + 4 * g;
+    t[nine] = 1;
+    print_part(name, number, &t, nine + 4);
+}
+
+// Reads the first k bytes.
+fn print_part(name: &[u8], number: usize, s: &[u8], k: usize) {
+    if k <= s.len() {
+        print_read(name, number, &s[..k]);
+    }
+}
+
+fn main() {
+    print_cuts(&S1);
+    print_all_damaged();
+    print_limit(b"events", 64, 64, 0);
+    print_limit(b"events", 65, 65, 0);
+    print_limit(b"locked", 16, 64, 16);
+    print_limit(b"locked", 17, 64, 17);
+}

@@ -1,0 +1,11 @@
+pub mod Examining
+pub mod Formings
+pub mod Judging
+pub mod Lays
+pub mod Lengths
+pub mod Lockings
+pub mod Pairs
+pub mod Partners
+pub mod Places
+pub mod Sorts
+pub mod Viewing

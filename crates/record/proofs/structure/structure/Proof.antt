@@ -1,0 +1,97 @@
+use Rattle.record.specs.Says.{executionOf}
+use native.Mathlib.Omega.{arith}
+use mathlib.Core.Path.{_∙_}
+use lib.ListN.{length-set}
+use Rattle.order.proofs.Searches.{entry-shown}
+use Rattle.order.proofs.Judgements.{given-next}
+use Rattle.record.proofs.Lengths.{small}
+use Rattle.record.proofs.Pairs.{pair-part, pair-sum, pair-next, pair-one, pair-two, pair-from, pair-to, pair-shown}
+use Rattle.record.proofs.Judging.{kept-10}
+use borrow.Author.Needs.{needs}
+use Rattle.record.proofs.structure.structure.Statement.{statement}
+use Rattle.record.proofs.structure.structure.Tie as tie
+
+joining-requires : tie.Need-joining-requires
+joining-requires c κs = search needs
+
+mul-at : tie.Need-mul-at
+mul-at c = let t = c in
+    let p = t .before .before .before .before .before .before .pre in
+    small _ (pair-part _ (p .0) _ (p .1 .causes) _ (t .if1 .taken))
+
+add-at : tie.Need-add-at
+add-at c = let t = c .before in
+    let p = t .before .before .before .before .before .before .pre in
+    small _ (pair-sum _ (p .0) _ (p .1 .causes) _ (t .if1 .taken))
+
+num1-requires : tie.Need-num1-requires
+num1-requires c κs = let t = c .before in
+    let p = t .before .before .before .before .before .before .pre in
+    pair-one _ (p .0) _ (p .1 .causes) _ (t .if1 .taken)
+
+cast-ev : tie.Need-cast-ev
+cast-ev c = search needs
+
+slice-write-ev : tie.Need-slice-write-ev
+slice-write-ev c = search needs
+
+add-num1 : tie.Need-add-num1
+add-num1 c = let t = c .before .before in
+    let p = t .before .before .before .before .before .before .pre in
+    small _ (pair-next _ (p .0) _ (p .1 .causes) _ (t .if1 .taken))
+
+num1-requires-2 : tie.Need-num1-requires-2
+num1-requires-2 c κs = let t = c .before .before in
+    let p = t .before .before .before .before .before .before .pre in
+    pair-two _ (p .0) _ (p .1 .causes) _ (t .if1 .taken)
+
+cast-ev-2 : tie.Need-cast-ev-2
+cast-ev-2 c = search needs
+
+slice-write-ev-2 : tie.Need-slice-write-ev-2
+slice-write-ev-2 c = let a = c .before .before .before .before .before .before .before .before .before in
+    let b = a .pre .2 in
+    omega (arith, length-set (a .args .ev .now) 0 (c .before .num1 .result))
+
+same-length : tie.Need-same-length
+same-length c = search needs
+
+returns : tie.Need-returns
+returns c = let t = c .before .before .before in
+    let a = t .before .before .before .before .before .before in
+    let p = a .pre in
+    let b = p .2 in
+    let x = c .before .num1 .ensures .0 ∙ pair-from _ (p .0) _ (p .1 .causes) _ (t .if1 .taken) in
+    let y = c .num12 .ensures .0 ∙ pair-to _ (p .0) _ (p .1 .causes) _ (t .if1 .taken) in
+    entry-shown 10 _ _ _ (t .before .before .joining .ensures) (t .if1 .taken) _ _ _ (pair-shown (executionOf (a .args .s .now)) (t .before .before .joining .result) _ _ x y) _ (a .args .ev .now) (omega arith)
+
+from-eleven-requires : tie.Need-from-eleven-requires
+from-eleven-requires c κs = search needs
+
+same-length-2 : tie.Need-same-length-2
+same-length-2 c = search needs
+
+returns-2 : tie.Need-returns-2
+returns-2 c = let e = c .before .before .before .before in
+    let p = e .before .before .before .before .before .before .pre in
+    given-next _ _ _ _ _ _ (kept-10 _ (p .0) _ (p .1 .causes) _ (e .if1 .left) (e .before .before .joining .ensures)) (c .before .before .from-eleven .ensures)
+
+pub structure-spec : {M : Type 1} → statement M
+structure-spec =
+    tie.close
+    (tie.spec
+    joining-requires
+    mul-at
+    add-at
+    num1-requires
+    cast-ev
+    slice-write-ev
+    add-num1
+    num1-requires-2
+    cast-ev-2
+    slice-write-ev-2
+    same-length
+    returns
+    from-eleven-requires
+    same-length-2
+    returns-2)
