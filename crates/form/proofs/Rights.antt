@@ -23,11 +23,11 @@ pub due-well : (s : List ℕ) (k w at z : ℕ) → due s k w at ≡ Next z → (
 unfolding due
 due-well s k w at z h = let (b, e) = pick-next (leb (at + w) (length s)) (Next (at + w)) _ z h in (leb-true _ _ b, (cc))
 
-sizes : List Field → ℕ
+pub sizes : List Field → ℕ
 sizes [] = 0
 sizes (f ∷ fs) = f .size + sizes fs
 
-fields-end : (k : ℕ) (fs : List Field) (at z : ℕ) → fieldsFrom k fs at ≡ Next z → z ≡ at + sizes fs
+pub fields-end : (k : ℕ) (fs : List Field) (at z : ℕ) → fieldsFrom k fs at ≡ Next z → z ≡ at + sizes fs
 unfolding sizes
 fields-end k [] at z h = rw add-zero (cc)
 fields-end k (f ∷ fs) at z h =
@@ -36,7 +36,7 @@ fields-end k (f ∷ fs) at z h =
     omega arith
 
 -- the table's widths are the fields' sizes
-sizes-width : (c : Counts) (s : List ℕ) (k at : ℕ) → Section k → sizes (fields c s k at) ≡ width k
+pub sizes-width : (c : Counts) (s : List ℕ) (k at : ℕ) → Section k → sizes (fields c s k at) ≡ width k
 unfolding sizes fields width eventFields pairFields lockFields initialFields oneField
 sizes-width c s zero at b = let h = b .from in omega arith
 sizes-width c s (suc zero) at b = let h = b .from in omega arith

@@ -1,5 +1,6 @@
 pub mod Bytes
 pub mod Form
+pub mod Seen
 pub mod Place
 pub mod Right
 pub mod Steps

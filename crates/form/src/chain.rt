@@ -1,5 +1,7 @@
 // A count with its entries, and runs of them: sections 2 to 8, and the views.
 ghost use mathlib.Core.Path.{_≡_};
+ghost use Prim.Native.Nat.{_≤_, _<_};
+ghost use lib.ListN.{length};
 ghost use Rattle.form.specs.Form.{Section, entries, block, sections, views};
 use crate::Counts;
 use crate::Fault;
@@ -8,14 +10,16 @@ use crate::bytes::num2;
 use crate::entry::due;
 use crate::entry::entry;
 use crate::entry::limit;
+use crate::entry::width;
+use crate::glance::glance;
 
 // `m` entries of section `k`.
 pub fn entries(c: Counts, s: &[u8], k: u16, m: usize, at: usize) -> Step
-    requires { ⌜ Section k ⌝ }
+    requires { ⌜ Section k × (m < 65536) × (at ≤ length (now s)) ⌝ }
     ensures { λ r. ⌜ r ≡ entries c (now (s .entry)) k m at ⌝ }
 {
-    let mut i: usize = 0;
-    let mut a = at;
+    let mut i = glance(c, s, k, m, at);
+    let mut a = at + i * width(k);
     while i < m {
         match entry(c, s, k, a) {
             Step::Stop(f) => return Step::Stop(f),

@@ -4,6 +4,7 @@
 pub mod bytes;
 pub mod chain;
 pub mod entry;
+pub mod glance;
 pub mod place;
 pub mod whole;
 

@@ -1,3 +1,4 @@
+pub mod Cases
 pub mod Examining
 pub mod Formings
 pub mod Judging

@@ -1,8 +1,7 @@
 // Rules 13 and 14: the locked instructions of section 4.
 ghost use mathlib.Core.Path.{_≡_};
 ghost use Prim.Native.Nat.{ℕ, _<_};
-ghost use Rattle.order.specs.Decides.{Decides};
-ghost use Rattle.order.specs.Least.{Some, Hit};
+ghost use Rattle.order.specs.Least.{Hit};
 ghost use Rattle.rows.specs.Members.{In, Is};
 ghost use Rattle.form.specs.Right.{Right};
 ghost use Rattle.record.specs.Says.{executionOf};
@@ -50,10 +49,10 @@ pub fn eventless(s: &[u8], locks: Part, own: [Set; 4]) -> usize
     m
 }
 
-// Whether an entry before entry i is the same.
-fn repeats(s: &[u8], locks: Part, i: usize) -> bool
+// The first entry before entry i that is the same, or i.
+fn twin(s: &[u8], locks: Part, i: usize) -> usize
     requires { ⌜ Right (now s) × Stands (now s) 4 locks × (i < locks .count) ⌝ }
-    ensures { λ r. ⌜ Decides r (Some i (λ j. executionOf (now (s .entry)) .locks .item j ≡ executionOf (now (s .entry)) .locks .item i)) ⌝ }
+    ensures { λ r. ⌜ Hit i (λ j. executionOf (now (s .entry)) .locks .item j ≡ executionOf (now (s .entry)) .locks .item i) r ⌝ }
 {
     let from = locks.at;
     let at = from + 4 * i;
@@ -63,11 +62,11 @@ fn repeats(s: &[u8], locks: Part, i: usize) -> bool
     while j < i {
         let here = from + 4 * j;
         if (num1(s, here) == p) & (num2(s, here + 2) == index) {
-            return true;
+            return j;
         }
         j += 1;
     }
-    false
+    i
 }
 
 // 14: the first entry that repeats an earlier one, or how many entries there are.
@@ -76,12 +75,13 @@ pub fn repeated(s: &[u8], locks: Part) -> usize
     ensures { λ r. ⌜ Hit (locks .count) (Repeated (executionOf (now (s .entry)))) r ⌝ }
 {
     let m = locks.count;
-    let mut i = 0;
-    while i < m {
-        if repeats(s, locks, i) {
-            return i;
+    let mut later = 0;
+    while later < m {
+        let earlier = twin(s, locks, later);
+        if earlier < later {
+            return later;
         }
-        i += 1;
+        later += 1;
     }
     m
 }

@@ -2,9 +2,6 @@ use borrow.Author.Needs.{needs}
 use Prim.Native.Nat.{_-_, _≤_}
 use Rattle.reading_cases.proofs.print_all_damaged.Statement.{statement}
 use Rattle.reading_cases.proofs.print_all_damaged.Tie as tie
-use Rattle.reading_cases.proofs.print_all_damaged.Reads as reads
-use Rattle.reading_cases.proofs.print_all_damaged.Lts as lts
-use Rattle.reading_cases.proofs.print_damaged.Reads as print-damaged-reads
 
 abbrev Inv-loop : tie.InvT-loop
 Inv-loop i₀ i = i ≤ 102
@@ -12,27 +9,21 @@ Inv-loop i₀ i = i ≤ 102
 abbrev μ-loop : tie.MeasureT-loop
 μ-loop i₀ i = 102 - i
 
--- src/main.rt:184:5
 loop-holds : tie.Need-loop-holds Inv-loop μ-loop
 loop-holds c = search needs
 
--- src/main.rt:185:9
 print-damaged-requires : tie.Need-print-damaged-requires Inv-loop μ-loop
 print-damaged-requires c κs = search needs
 
--- src/main.rt:186:9
 add-i : tie.Need-add-i Inv-loop μ-loop
 add-i c = search needs
 
--- src/main.rt:184:5
 loop-less : tie.Need-loop-less Inv-loop μ-loop
 loop-less c = search needs
 
--- src/main.rt:184:5
 loop-again : tie.Need-loop-again Inv-loop μ-loop
 loop-again c = search needs
 
--- src/main.rt:182:1
 returns : tie.Need-returns Inv-loop μ-loop
 returns c = search needs
 

@@ -6,9 +6,6 @@ use lib.ListN.{length}
 use lib.Seq.{length-take-le}
 use Rattle.reading_cases.proofs.print_cuts.Statement.{statement}
 use Rattle.reading_cases.proofs.print_cuts.Tie as tie
-use Rattle.reading_cases.proofs.print_cuts.Reads as reads
-use Rattle.reading_cases.proofs.print_cuts.Lts as lts
-use Rattle.reading_cases.proofs.print_examined.Reads as print-examined-reads
 
 abbrev Inv-loop : tie.InvT-loop
 Inv-loop s k₀ t3 k = k ≤ length s
@@ -16,37 +13,29 @@ Inv-loop s k₀ t3 k = k ≤ length s
 abbrev μ-loop : tie.MeasureT-loop
 μ-loop s k₀ t3 k = length s - k
 
--- src/main.rt:168:5
 loop-holds : tie.Need-loop-holds Inv-loop μ-loop
 loop-holds c = search needs
 
--- src/main.rt:169:24
 slice-aggregate-print-examined : tie.Need-slice-aggregate-print-examined Inv-loop μ-loop
 slice-aggregate-print-examined c = search needs
 
--- src/main.rt:169:35
 slice-aggregate-print-examined-2 : tie.Need-slice-aggregate-print-examined-2 Inv-loop μ-loop
 slice-aggregate-print-examined-2 c = let l = c .before .before in
     let h = l .loop-test .taken in
     sym (length-take-le (l .before .loop .k) (l .before .before .before .args .s .now) (omega arith))
 
--- src/main.rt:169:9
 print-examined-requires : tie.Need-print-examined-requires Inv-loop μ-loop
 print-examined-requires c κs = search needs
 
--- src/main.rt:170:9
 add-k : tie.Need-add-k Inv-loop μ-loop
 add-k c = search needs
 
--- src/main.rt:168:5
 loop-less : tie.Need-loop-less Inv-loop μ-loop
 loop-less c = search needs
 
--- src/main.rt:168:5
 loop-again : tie.Need-loop-again Inv-loop μ-loop
 loop-again c = search needs
 
--- src/main.rt:166:1
 returns : tie.Need-returns Inv-loop μ-loop
 returns c = search needs
 

@@ -3,24 +3,17 @@ use lib.Seq.{length-take-le}
 use borrow.Author.Needs.{needs}
 use Rattle.reading_cases.proofs.print_part.Statement.{statement}
 use Rattle.reading_cases.proofs.print_part.Tie as tie
-use Rattle.reading_cases.proofs.print_part.Reads as reads
-use Rattle.reading_cases.proofs.print_part.Lts as lts
-use Rattle.reading_cases.proofs.print_read.Reads as print-read-reads
 
--- src/main.rt:207:34
 slice-aggregate-print-read : tie.Need-slice-aggregate-print-read
 slice-aggregate-print-read c = let a = c .before .before .before .before .args in
     sym (length-take-le (a .k) (a .s .now) (c .before .if1 .taken))
 
--- src/main.rt:207:9
 print-read-requires : tie.Need-print-read-requires
 print-read-requires c κs = search needs
 
--- src/main.rt:205:1
 returns : tie.Need-returns
 returns c = search needs
 
--- src/main.rt:205:1
 returns-2 : tie.Need-returns-2
 returns-2 c = search needs
 

@@ -25,7 +25,12 @@ returns : tie.Need-returns
 returns c = block-over _ _ _ _ (c .before .before .before .before .a .given .0 .0) (cc) (omega arith)
 
 entries-requires : tie.Need-entries-requires
-entries-requires c κs = search needs
+entries-requires c κs = let t = c .before .before .before in
+    let a = t .before .before .before .before .before .args in
+    let d = due-well (a .s .now) (a .k) 2 (a .at) (t .before .a .given .0 .0) (cc) in
+    let x = d .0 in
+    let y = d .1 in
+    (t .before .before .before .before .before .pre, c .before .before .num2 .ensures .1, rw y x)
 
 returns-2 : tie.Need-returns-2
 returns-2 c = block-stop _ _ _ _ _ (cc)

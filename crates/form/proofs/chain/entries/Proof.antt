@@ -1,10 +1,11 @@
 use Prim.Native.Nat.{_-_}
-use mathlib.Core.Path.{_≡_, refl}
+use mathlib.Core.Path.{_≡_}
 use native.Mathlib.Omega.{arith}
 use borrow.Author.Needs.{needs}
 use Rattle.form.specs.Form.{entry, entries}
 use Rattle.form.specs.Steps.{upto}
 use Rattle.form.proofs.Runs.{upto-none, upto-stop, upto-next}
+use Rattle.form.proofs.Seeing.{seen-fits, seen-on}
 use Rattle.form.proofs.chain.entries.Statement.{statement}
 use Rattle.form.proofs.chain.entries.Tie as tie
 
@@ -14,9 +15,25 @@ Inv-loop c s k m at i₀ a₀ i a = upto (λ j b. entry c s k b) i m a ≡ entri
 abbrev μ-loop : tie.MeasureT-loop
 μ-loop c s k m at i₀ a₀ i a = m - i
 
+glance-requires : tie.Need-glance-requires Inv-loop μ-loop
+glance-requires c κs = search needs
+
+width-requires : tie.Need-width-requires Inv-loop μ-loop
+width-requires c κs = search needs
+
+mul-a : tie.Need-mul-a Inv-loop μ-loop
+mul-a c = let p = c .before .before .before .pre in
+    let h = seen-fits _ _ _ _ _ (p .0) (p .2) _ (c .before .glance .ensures) in
+    let w = c .width .ensures in
+    rw w (omega arith)
+
+add-a : tie.Need-add-a Inv-loop μ-loop
+add-a c = let p = c .before .before .before .pre in
+    let h = seen-fits _ _ _ _ _ (p .0) (p .2) _ (c .before .glance .ensures) in
+    rw (c .width .ensures) (omega arith)
+
 loop-holds : tie.Need-loop-holds Inv-loop μ-loop
-unfolding entries
-loop-holds c = refl
+loop-holds c = rw (c .width .ensures) (seen-on _ _ _ _ _ _ (c .before .glance .ensures))
 
 entry-requires : tie.Need-entry-requires Inv-loop μ-loop
 entry-requires c κs = search needs
@@ -48,6 +65,10 @@ entries-spec =
     (tie.spec
     Inv-loop
     μ-loop
+    glance-requires
+    width-requires
+    mul-a
+    add-a
     loop-holds
     entry-requires
     enum-known-f

@@ -9,32 +9,32 @@ use Rattle.record.proofs.locks.repeated.Statement.{statement}
 use Rattle.record.proofs.locks.repeated.Tie as tie
 
 abbrev Inv-loop : tie.InvT-loop
-Inv-loop s locks m i₀ i = (i ≤ m) × None i (Repeated (executionOf s))
+Inv-loop s locks m later₀ later = (later ≤ m) × None later (Repeated (executionOf s))
 
 abbrev μ-loop : tie.MeasureT-loop
-μ-loop s locks m i₀ i = m - i
+μ-loop s locks m later₀ later = m - later
 
 loop-holds : tie.Need-loop-holds Inv-loop μ-loop
 loop-holds c = (omega arith, none-yet _)
 
-repeats-requires : tie.Need-repeats-requires Inv-loop μ-loop
-repeats-requires c κs = let p = c .before .before .before .pre in
+twin-requires : tie.Need-twin-requires Inv-loop μ-loop
+twin-requires c κs = let p = c .before .before .before .pre in
     (p .0, p .1, c .loop-test .taken)
 
 returns : tie.Need-returns Inv-loop μ-loop
 returns c = let l = c .before .before in
     let p = l .before .before .before .pre in
-    hit-at _ _ _ (l .before .loop .inv .1) (l .loop-test .taken) (repeated-is _ _ (lock-within _ (p .0) _ (p .1) (l .before .loop .i) (l .loop-test .taken)) (c .before .repeats .ensures .holds (c .if1 .taken)))
+    hit-at _ _ _ (l .before .loop .inv .1) (l .loop-test .taken) (repeated-is _ _ (lock-within _ (p .0) _ (p .1) (l .before .loop .later) (l .loop-test .taken)) (let e = c .if1 .taken in let h = c .before .twin .ensures .hit e in (c .before .twin .result, e, h)))
 
-add-i : tie.Need-add-i Inv-loop μ-loop
-add-i c = omega arith
+add-later : tie.Need-add-later Inv-loop μ-loop
+add-later c = omega arith
 
 loop-less : tie.Need-loop-less Inv-loop μ-loop
 loop-less c = omega arith
 
 loop-again : tie.Need-loop-again Inv-loop μ-loop
 loop-again c = let l = c .before .before in
-    (omega arith, none-next _ _ (l .before .loop .inv .1) (repeated-not _ _ (c .before .repeats .ensures .fails (c .if1 .left))))
+    (omega arith, none-next _ _ (l .before .loop .inv .1) (repeated-not _ _ (λ q. let g = c .if1 .left in c .before .twin .ensures .none (q .0) (let k = q .1 in omega arith) (q .2))))
 
 returns-2 : tie.Need-returns-2 Inv-loop μ-loop
 returns-2 c = hit-not _ _ _ (c .before .loop .inv .1) (c .loop-test .left)
@@ -46,9 +46,9 @@ repeated-spec =
     Inv-loop
     μ-loop
     loop-holds
-    repeats-requires
+    twin-requires
     returns
-    add-i
+    add-later
     loop-less
     loop-again
     returns-2)

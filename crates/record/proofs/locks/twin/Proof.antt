@@ -2,12 +2,11 @@ use Prim.Native.Nat.{_-_, _≤_}
 use mathlib.Core.Path.{_≡_, _∙_}
 use native.Mathlib.Omega.{arith}
 use Rattle.order.specs.Least.{None}
-use Rattle.order.proofs.Tests.{by-yes, by-no}
-use Rattle.order.proofs.Searches.{none-yet, none-next}
+use Rattle.order.proofs.Searches.{none-yet, none-next, hit-at, hit-not}
 use Rattle.record.specs.Says.{executionOf}
 use Rattle.record.proofs.Lockings.{lock-fits, lock-low, lock-processor, lock-index, same-entry}
-use Rattle.record.proofs.locks.repeats.Statement.{statement}
-use Rattle.record.proofs.locks.repeats.Tie as tie
+use Rattle.record.proofs.locks.twin.Statement.{statement}
+use Rattle.record.proofs.locks.twin.Tie as tie
 
 abbrev Inv-loop : tie.InvT-loop
 Inv-loop s i from at p index j₀ j = (j ≤ i) × None j (λ k. executionOf s .locks .item k ≡ executionOf s .locks .item i)
@@ -90,7 +89,7 @@ returns c = let b = c .before in
     (b .num22 .ensures .0 ∙ lock-index _ (p .0) _ (p .1) (l .before .loop .j) (omega arith))
     (n .before .num1 .ensures .0 ∙ lock-processor _ (p .0) _ (p .1) _ (p .2))
     (n .num2 .ensures .0 ∙ lock-index _ (p .0) _ (p .1) _ (p .2)) in
-    by-yes (l .before .loop .j, t, d .holds (c .if1 .taken))
+    hit-at _ _ _ (l .before .loop .inv .1) t (d .holds (c .if1 .taken))
 
 add-j : tie.Need-add-j Inv-loop μ-loop
 add-j c = omega arith
@@ -113,10 +112,10 @@ loop-again c = let b = c .before in
     (omega arith, none-next _ _ (l .before .loop .inv .1) (d .fails (c .if1 .left)))
 
 returns-2 : tie.Need-returns-2 Inv-loop μ-loop
-returns-2 c = by-no (λ q. c .before .loop .inv .1 (q .0) (let l = q .1 in omega arith) (q .2))
+returns-2 c = hit-not _ _ _ (c .before .loop .inv .1) (c .loop-test .left)
 
-pub repeats-spec : {M : Type 1} → statement M
-repeats-spec =
+pub twin-spec : {M : Type 1} → statement M
+twin-spec =
     tie.close
     (tie.spec
     Inv-loop

@@ -1,0 +1,136 @@
+-- Entries seen to be right, one after the other.
+use Prim.Native.Nat.{ℕ, zero, suc, _+_, _*_, _/_, _<_, _≤_}
+use mathlib.Core.Path.{_≡_, refl, sym, ap, _∙_, subst}
+use mathlib.Core.Logic.{_⊎_, inl, inr}
+use mathlib.Core.List.{List}
+use native.Mathlib.Omega.{arith}
+use native.Mathlib.Decide.{decLt}
+use native.Mathlib.Nat.{mul-comm, zero-mul, suc-mul, add-zero, mul-one, add-assoc}
+use native.Mathlib.Numerals.{add-one}
+use lib.ListN.{length}
+use borrow.Author.Tests.{le-leb}
+use Rattle.form.specs.Bytes.{num}
+use Rattle.form.specs.Steps.{upto}
+use Rattle.form.specs.Form.{Section, width, due, fields, fieldsFrom, eventFields, initialFields, entry, entries}
+use Rattle.form.specs.Seen.{Leading, Seen}
+use Rattle.form.specs.declared.Counts.{Counts}
+use Rattle.form.specs.declared.Step.the-variants.{Next}
+use Rattle.form.proofs.Rights.{fields-end, sizes-width, entry-well}
+use Rattle.form.proofs.Runs.{upto-next}
+use Rattle.form.proofs.Branches.{pair-right, one-right, row-pair, row-locked, row-one}
+
+-- bytes below n
+module _ (s : List ℕ) (n at m : ℕ) where
+  pub leading-none : Leading s n at m 0
+  leading-none = record { most = omega arith; low = λ j h. absurd (omega arith) }
+
+  pub leading-more : (i : ℕ) → Leading s n at m i → i < m → at + i + 1 ≤ length s → num 1 s (at + i) < n → Leading s n at m (i + 1)
+  leading-more i p l f h = record { most = omega arith; low = λ j g. go j g (decLt j i) }
+    where
+      go : (j : ℕ) → j < i + 1 → Dec (j < i) → (at + j + 1 ≤ length s) × (num 1 s (at + j) < n)
+      go j g (yes d) = p .low j d
+      go j g (no d) = let e : j ≡ i = omega arith in rw e (f, h)
+
+module _ (c : Counts) (s : List ℕ) (k at m : ℕ) where
+  pub seen-none : Seen c s k m at 0
+  seen-none = record { most = omega arith; right = λ j h. absurd (omega arith) }
+
+  pub seen-more : (i : ℕ) → Seen c s k m at i → i < m → entry c s k (at + i * width k) ≡ Next (at + (i + 1) * width k) → Seen c s k m at (i + 1)
+  seen-more i p l e = record { most = omega arith; right = λ j g. go j g (decLt j i) }
+    where
+      go : (j : ℕ) → j < i + 1 → Dec (j < i) → entry c s k (at + j * width k) ≡ Next (at + (j + 1) * width k)
+      go j g (yes d) = p .right j d
+      go j g (no d) = let q : j ≡ i = omega arith in rw q e
+
+  -- an entry that is there whole and whose fields are right
+  pub right-entry : Section k → (a z : ℕ) → a + width k ≤ length s → fieldsFrom k (fields c s k a) a ≡ Next z → entry c s k a ≡ Next (a + width k)
+  unfolding entry due
+  right-entry sec a z h e =
+      let f = fields-end k (fields c s k a) a z e in
+      let g = sizes-width c s k a sec in
+      let q : z ≡ a + width k = omega arith in
+      simp (le-leb _ _ h) (e ∙ ap Next q)
+
+  next-place : (i : ℕ) → at + i * width k + width k ≡ at + (i + 1) * width k
+  next-place i = simp (add-one, suc-mul, add-assoc)
+
+  pub seen-entry : Section k → (i z : ℕ) → at + i * width k + width k ≤ length s
+      → fieldsFrom k (fields c s k (at + i * width k)) (at + i * width k) ≡ Next z → entry c s k (at + i * width k) ≡ Next (at + (i + 1) * width k)
+  seen-entry sec i z h e = right-entry sec (at + i * width k) z h e ∙ ap Next (next-place i)
+
+  -- what is seen ends within the record
+  pub seen-fits : Section k → at ≤ length s → (i : ℕ) → Seen c s k m at i → at + i * width k ≤ length s
+  seen-fits sec h zero p = let z : zero * width k ≡ 0 = zero-mul _ in omega arith
+  seen-fits sec h (suc i) p =
+      let w = entry-well c s k _ _ sec (p .right i (omega arith)) .0 in
+      let q : suc i * width k ≡ i * width k + width k = suc-mul _ _ in
+      omega arith
+
+  -- reading goes on after what is seen
+  pub seen-on : (i : ℕ) → Seen c s k m at i → upto (λ j b. entry c s k b) i m (at + i * width k) ≡ entries c s k m at
+  unfolding entries
+  seen-on zero p = let z : at + zero * width k ≡ at = ap (λ (x : ℕ). at + x) (zero-mul _) ∙ add-zero at in rw z
+  seen-on (suc i) p =
+      let q : Seen c s k m at i = record { most = let h = p .most in omega arith; right = λ j h. p .right j (omega arith) } in
+      let l = p .most in
+      rw (sym (add-one i)) (upto-next _ i m _ _ (seen-on i q) _ (omega arith) (p .right i (omega arith)))
+
+-- entries of twelve bytes
+module _ (c : Counts) (s : List ℕ) (at m i : ℕ) (l : i < m) (f : at + 12 * i + 12 ≤ length s) (z : ℕ) where
+  twelve : (k : ℕ) → Section k → 12 ≡ width k → Seen c s k m at i → fieldsFrom k (fields c s k (at + 12 * i)) (at + 12 * i) ≡ Next z → Seen c s k m at (i + 1)
+  twelve k sec w p e =
+      let q : 12 * i ≡ i * width k = mul-comm 12 i ∙ ap (λ (x : ℕ). i * x) w in
+      seen-more c s k at m i p l (seen-entry c s k at m sec i z (omega arith) (rw q at e))
+
+  pub seen-event : Seen c s 2 m at i → fieldsFrom 2 (eventFields c s (at + 12 * i)) (at + 12 * i) ≡ Next z → Seen c s 2 m at (i + 1)
+  unfolding fields width
+  seen-event = twelve 2 (record { from = omega arith; to = omega arith }) refl
+
+  pub seen-initial : Seen c s 5 m at i → fieldsFrom 5 (initialFields c s (at + 12 * i)) (at + 12 * i) ≡ Next z → Seen c s 5 m at (i + 1)
+  unfolding fields width
+  seen-initial = twelve 5 (record { from = omega arith; to = omega arith }) refl
+
+one-wide : (k : ℕ) → (k ≡ 6) ⊎ (k ≡ 9) → 1 ≡ width k
+unfolding width
+one-wide k (inl e) = rw e
+one-wide k (inr e) = rw e
+
+lock-wide : (k : ℕ) → k ≡ 7 → 1 ≡ width k
+unfolding width
+lock-wide k e = rw e
+
+two-wide : (k : ℕ) → (k ≡ 3) ⊎ (k ≡ 8) → 2 ≡ width k
+unfolding width
+two-wide k (inl e) = rw e
+two-wide k (inr e) = rw e
+
+-- entries of one number, and of two
+module _ (c : Counts) (s : List ℕ) (k at m : ℕ) (sec : Section k) where
+  ones : (n : ℕ) → 1 ≡ width k → ((a : ℕ) → num 1 s a < n → Next (a + 1) ≡ fieldsFrom k (fields c s k a) a) → (r : ℕ) → Leading s n at m r → Seen c s k m at r
+  ones n w g r p = record { most = p .most; right = λ j h. go j h }
+    where
+      go : (j : ℕ) → j < r → entry c s k (at + j * width k) ≡ Next (at + (j + 1) * width k)
+      go j h =
+          let q : j ≡ j * width k = sym (mul-one j) ∙ ap (λ (x : ℕ). j * x) w in
+          let a = p .low j h in
+          let f = a .0 in
+          seen-entry c s k at m sec j (at + j * width k + 1) (omega arith) (rw q at (sym (g (at + j) (a .1))))
+
+  pub seen-numbers : (k ≡ 6) ⊎ (k ≡ 9) → (r : ℕ) → Leading s (c .events) at m r → Seen c s k m at r
+  seen-numbers d = ones (c .events) (one-wide k d) (λ a h. row-one c s k a d _ (one-right (c .events) k s a h))
+
+  pub seen-locks : k ≡ 7 → (r : ℕ) → Leading s (c .locks) at m r → Seen c s k m at r
+  seen-locks d = ones (c .locks) (lock-wide k d) (λ a h. row-locked c s k a d _ (one-right (c .locks) k s a h))
+
+  pub seen-pairs : (k ≡ 3) ⊎ (k ≡ 8) → (r : ℕ) → Leading s (c .events) at (2 * m) r → Seen c s k m at (r / 2)
+  seen-pairs d r p = record { most = let h = p .most in omega arith; right = λ j h. go j h }
+    where
+      go : (j : ℕ) → j < r / 2 → entry c s k (at + j * width k) ≡ Next (at + (j + 1) * width k)
+      go j h =
+          let q : 2 * j ≡ j * width k = mul-comm 2 j ∙ ap (λ (x : ℕ). j * x) (two-wide k d) in
+          let a = p .low (2 * j) (omega arith) in
+          let b = p .low (2 * j + 1) (omega arith) in
+          let g = b .0 in
+          let w = two-wide k d in
+          let y = subst (λ (x : ℕ). num 1 s x < c .events) (sym (add-assoc at (2 * j) 1)) (b .1) in
+          seen-entry c s k at m sec j (at + j * width k + 2) (omega arith) (rw q at (sym (row-pair c s k (at + 2 * j) d _ (pair-right c s (at + 2 * j) k (a .1) y))))
