@@ -8,5 +8,6 @@ pub mod Lockings
 pub mod Pairs
 pub mod Partners
 pub mod Places
+pub mod Reading
 pub mod Sorts
 pub mod Viewing

@@ -1,7 +1,7 @@
--- The view question's definitions, branch by branch, and that a view's bytes lie within a record that has the form.
+-- The view question: its definitions, branch by branch, and that a view lies within a record that has the form.
 
 use Prim.Native.Nat.{ℕ, _+_, _≤_, _<_}
-use mathlib.Core.Path.{_≡_}
+use mathlib.Core.Path.{_≡_, sym, _∙_}
 use mathlib.Core.List.{List, []}
 use native.Mathlib.Omega.{arith}
 use lib.ListN.{length, take, drop}
@@ -43,3 +43,8 @@ module _ (s : List ℕ) (p : ℕ) where
 
     pub two-fit : 2 ≤ length s
     two-fit = let r = whole-well s z e in let f = r .section 2 (omega arith) (omega arith) .fits in let g = r .section 2 (omega arith) (omega arith) .ends in omega arith
+
+-- two results that the contract of `view` allows are one
+pub view-decided : (s : List ℕ) (p a b : ℕ) (x y : List ℕ) → a ≡ viewAnswer s p → b ≡ viewAnswer s p → x ≡ viewPart s p → y ≡ viewPart s p
+    → (a ≡ b) × (x ≡ y)
+view-decided s p a b x y e f g h = (e ∙ sym f, g ∙ sym h)

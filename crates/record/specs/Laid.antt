@@ -1,5 +1,5 @@
 -- Where the sections of a record stand.
-use Prim.Native.Nat.{ℕ, _+_}
+use Prim.Native.Nat.{ℕ, _+_, _<_}
 use mathlib.Core.Path.{_≡_}
 use mathlib.Core.List.{List}
 use Rattle.form.specs.Bytes.{num}
@@ -22,3 +22,11 @@ pub record Laid (s : List ℕ) (l : Layout) : Type 0 where
   pub lockorder : Stands s 7 (l .lockorder)
   pub sources : Stands s 8 (l .sources)
   pub views : l .views ≡ viewStart s 0
+
+-- v has the events of processor p's view
+pub record Views (s : List ℕ) (p : ℕ) (v : Part) : Type 0 where
+  pub place : v .at ≡ viewStart s p + 2
+  pub number : v .count ≡ num 2 s (viewStart s p)
+
+abbrev pub SomeView : List ℕ → Part → Type 0
+SomeView s v = (p : ℕ) × (p < num 1 s 1) × Views s p v

@@ -4,7 +4,7 @@ use mathlib.Core.Path.{_≡_}
 use mathlib.Core.Logic.{_⊎_}
 use Rattle.order.specs.Least.{Some}
 use Rattle.order.specs.Relation.{Rel}
-use Rattle.record.specs.Execution.{Instruction, Execution}
+use Rattle.record.specs.Execution.{Instruction, Initial, Execution}
 use Rattle.record.specs.declared.Event.{Event}
 
 abbrev pub Memory : Event → Type 0
@@ -37,3 +37,9 @@ Belongs x i = (x .processor ≡ i .processor) × (x .index ≡ i .index)
 -- a section 3 pair from a to b
 unfoldable pub Causes : Execution → Rel
 Causes x a b = Some (x .causes .size) (λ i. (x .causes .item i .from ≡ a) × (x .causes .item i .to ≡ b))
+
+-- the entry of section 5 is for the event's place
+abbrev pub InitialFor : Event → Initial → Type 0
+InitialFor x i =
+    (Memory x × ((i .class ≡ 0) × (x .place ≡ i .place)))
+    ⊎ (Register x × ((i .class ≡ 1) × ((x .processor ≡ i .processor) × (x .place ≡ i .place))))

@@ -4,6 +4,7 @@
 pub mod causes;
 pub mod events;
 pub mod examine;
+pub mod lists;
 pub mod locks;
 pub mod registers;
 pub mod sections;

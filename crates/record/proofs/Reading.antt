@@ -1,0 +1,92 @@
+-- Entries read in place: where their fields stand, and that the place is within the record.
+use Prim.Native.Nat.{ℕ, _+_, _*_, _<_, _≤_}
+use mathlib.Core.Path.{_≡_, sym, ap, _∙_}
+use mathlib.Core.List.{List}
+use native.Mathlib.Omega.{arith}
+use native.Mathlib.Nat.{one-mul}
+use lib.ListN.{length}
+use lib.Dec.{eqb, ltb, leb}
+use mathlib.Core.Bool.{_||_, _&&_}
+use Rattle.form.specs.Bytes.{num}
+use Rattle.form.specs.Form.{width}
+use Rattle.form.specs.Place.{entryAt, viewStart}
+use Rattle.form.specs.Right.{Right}
+use Rattle.order.specs.Decides.{Decides}
+use Rattle.order.proofs.Tests.{by-or, by-and, by-eq, by-lt, by-le}
+use Rattle.record.specs.Execution.{Initial}
+use Rattle.record.specs.Words.{InitialFor}
+use Rattle.record.specs.declared.Event.{Event}
+use Rattle.record.specs.Laid.{Stands, Views}
+use Rattle.record.specs.Says.{executionOf}
+use Rattle.form.proofs.Starts.{viewStart-next}
+use Rattle.record.specs.declared.Part.{Part}
+use Rattle.record.proofs.Lengths.{length-low}
+use Rattle.record.proofs.Places.{entry-place, entry-within}
+
+-- entry i of section k, w bytes wide, and d bytes into it
+module _ (s : List ℕ) (r : Right s) (k : ℕ) (a : 2 ≤ k) (b : k < 9) (p : Part) (q : Stands s k p) (w : ℕ) (e : w ≡ width k) (i : ℕ) (h : i < p .count) where
+  pub field-fits : (d n : ℕ) → d + n ≤ w → p .at + w * i + d + n ≤ length s
+  field-fits d n l = let f = entry-within s r k a b p q w e i h in omega arith
+
+  pub entry-fit : (n : ℕ) → n ≤ w → p .at + w * i + n ≤ length s
+  entry-fit n l = let f = entry-within s r k a b p q w e i h in omega arith
+
+  pub field-small : (d : ℕ) → d ≤ w → p .at + w * i + d ≤ 2346
+  field-small d l = let f = entry-within s r k a b p q w e i h in let g = length-low s r in omega arith
+
+  pub entry-small : p .at + w * i ≤ 2346
+  entry-small = let f = entry-within s r k a b p q w e i h in let g = length-low s r in omega arith
+
+  pub index-small : w * i ≤ 2346
+  index-small = let f = entry-small in omega arith
+
+  pub field-of : (n d : ℕ) → num n s (p .at + w * i + d) ≡ num n s (entryAt s k i + d)
+  field-of n d = ap (λ (x : ℕ). num n s (x + d)) (entry-place s r k a b p q w e i)
+
+  pub first-of : (n : ℕ) → num n s (p .at + w * i) ≡ num n s (entryAt s k i)
+  first-of n = ap (num n s) (entry-place s r k a b p q w e i)
+
+-- entries of one byte
+module _ (s : List ℕ) (r : Right s) (k : ℕ) (a : 2 ≤ k) (b : k < 9) (p : Part) (q : Stands s k p) (e : 1 ≡ width k) (i : ℕ) (h : i < p .count) where
+  one-place : p .at + 1 * i ≡ p .at + i
+  one-place = ap (λ (x : ℕ). p .at + x) (one-mul i)
+
+  pub byte-fits : p .at + i + 1 ≤ length s
+  byte-fits = let f = entry-within s r k a b p q 1 e i h in let z = one-place in omega arith
+
+  pub byte-small : p .at + i ≤ 2346
+  byte-small = let f = byte-fits in let g = length-low s r in omega arith
+
+  pub byte-of : num 1 s (p .at + i) ≡ num 1 s (entryAt s k i)
+  byte-of = ap (num 1 s) (sym one-place ∙ entry-place s r k a b p q 1 e i)
+
+-- whether an entry of section 5, whose fields were read, is for the event's place
+pub initial-tested : (x : Event) (i : Initial) (class place owner : ℕ) → class ≡ i .class → place ≡ i .place → owner ≡ i .processor
+    → Decides ((ltb (x .kind) 2 && (eqb class 0 && eqb (x .place) place)) || (leb 2 (x .kind) && (eqb class 1 && (eqb (x .processor) owner && eqb (x .place) place))))
+    (InitialFor x i)
+initial-tested x i class place owner ec ep eo =
+    rw (ec, ep, eo)
+    (by-or _ _
+    (by-and _ _ (by-lt _ _) (by-and _ _ (by-eq _ _) (by-eq _ _)))
+    (by-and _ _ (by-le _ _) (by-and _ _ (by-eq _ _) (by-and _ _ (by-eq _ _) (by-eq _ _)))))
+
+-- a view's count and its events stand in the record
+module _ (s : List ℕ) (r : Right s) (p : ℕ) (h : p < num 1 s 1) where
+  view-end : viewStart s p + 2 + num 2 s (viewStart s p) ≤ length s
+  view-end = let f = r .view p h .fits in let e = viewStart-next s p in omega arith
+
+  pub view-count-fits : viewStart s p + 2 ≤ length s
+  view-count-fits = let f = view-end in omega arith
+
+  pub view-count-small : viewStart s p + 2 ≤ 2346
+  view-count-small = let f = view-count-fits in let g = length-low s r in omega arith
+
+  module _ (v : Part) (q : Views s p v) (i : ℕ) (l : i < v .count) where
+    pub item-fits : v .at + i + 1 ≤ length s
+    item-fits = let f = view-end in let a = q .place in let b = q .number in omega arith
+
+    pub item-small : v .at + i ≤ 2346
+    item-small = let f = item-fits in let g = length-low s r in omega arith
+
+pub item-is : (s : List ℕ) (p : ℕ) (v : Part) (i : ℕ) → Views s p v → num 1 s (v .at + i) ≡ executionOf s .view p .item i
+item-is s p v i q = ap (λ (x : ℕ). num 1 s (x + i)) (q .place)

@@ -1,0 +1,101 @@
+// The items of sections 5 to 9, read in place.
+ghost use mathlib.Core.Path.{_≡_};
+ghost use Prim.Native.Nat.{ℕ, _<_};
+ghost use Rattle.order.specs.Least.{Hit};
+ghost use Rattle.form.specs.Place.{viewStart};
+ghost use Rattle.form.specs.Right.{Right};
+ghost use Rattle.record.specs.Says.{executionOf};
+ghost use Rattle.record.specs.Laid.{Stands, Views, SomeView};
+ghost use Rattle.record.specs.Words.{InitialFor};
+use crate::Event;
+use crate::Part;
+use form::bytes::num1;
+use form::bytes::num2;
+use form::bytes::num4;
+
+// Item i of the store order.
+pub fn store_of(s: &[u8], stores: Part, i: usize) -> usize
+    requires { ⌜ Right (now s) × Stands (now s) 6 stores × (i < stores .count) ⌝ }
+    ensures { λ r. ⌜ r ≡ executionOf (now (s .entry)) .stores .item i ⌝ }
+{
+    let from = stores.at;
+    num1(s, from + i)
+}
+
+// Item i of the locked order.
+pub fn lock_of(s: &[u8], lockorder: Part, i: usize) -> usize
+    requires { ⌜ Right (now s) × Stands (now s) 7 lockorder × (i < lockorder .count) ⌝ }
+    ensures { λ r. ⌜ r ≡ executionOf (now (s .entry)) .lockOrder .item i ⌝ }
+{
+    let from = lockorder.at;
+    num1(s, from + i)
+}
+
+// The writing event of reads-from pair i.
+pub fn source_of(s: &[u8], sources: Part, i: usize) -> usize
+    requires { ⌜ Right (now s) × Stands (now s) 8 sources × (i < sources .count) ⌝ }
+    ensures { λ r. ⌜ r ≡ executionOf (now (s .entry)) .sources .item i .from ⌝ }
+{
+    let from = sources.at;
+    num1(s, from + 2 * i)
+}
+
+// The reading event of reads-from pair i.
+pub fn reader_of(s: &[u8], sources: Part, i: usize) -> usize
+    requires { ⌜ Right (now s) × Stands (now s) 8 sources × (i < sources .count) ⌝ }
+    ensures { λ r. ⌜ r ≡ executionOf (now (s .entry)) .sources .item i .to ⌝ }
+{
+    let from = sources.at;
+    num1(s, from + 2 * i + 1)
+}
+
+// The first entry of section 5 for the event's place, or how many entries there are.
+pub fn initial_for(s: &[u8], initials: Part, x: Event) -> usize
+    requires { ⌜ Right (now s) × Stands (now s) 5 initials ⌝ }
+    ensures { λ r. ⌜ Hit (initials .count) (λ i. InitialFor x (executionOf (now (s .entry)) .initials .item i)) r ⌝ }
+{
+    let from = initials.at;
+    let m = initials.count;
+    let mut i = 0;
+    while i < m {
+        let at = from + 12 * i;
+        let class = num1(s, at + 1);
+        let place = num4(s, at + 4);
+        if ((x.kind < 2) & ((class == 0) & (x.place == place)))
+            | ((2 <= x.kind) & ((class == 1) & ((x.processor == num1(s, at)) & (x.place == place))))
+        {
+            return i;
+        }
+        i += 1;
+    }
+    m
+}
+
+// The value of entry i of section 5.
+pub fn value_of(s: &[u8], initials: Part, i: usize) -> usize
+    requires { ⌜ Right (now s) × Stands (now s) 5 initials × (i < initials .count) ⌝ }
+    ensures { λ r. ⌜ r ≡ executionOf (now (s .entry)) .initials .item i .value ⌝ }
+{
+    let from = initials.at;
+    num4(s, from + 12 * i + 8)
+}
+
+// The events of processor p's view, whose count stands at `at`.
+pub fn view_of(s: &[u8], p: usize, at: usize) -> Part
+    requires { ⌜ Right (now s) × (p < executionOf (now s) .processors) × (at ≡ viewStart (now s) p) ⌝ }
+    ensures { λ r. ⌜ Views (now (s .entry)) p r ⌝ }
+{
+    Part {
+        at: at + 2,
+        count: num2(s, at),
+    }
+}
+
+// Item i of a view.
+pub fn item_of(s: &[u8], view: Part, i: usize) -> usize
+    requires { ⌜ Right (now s) × SomeView (now s) view × (i < view .count) ⌝ }
+    ensures { λ r. ⌜ ((p : ℕ) → Views (now (s .entry)) p view → r ≡ executionOf (now (s .entry)) .view p .item i) ⌝ }
+{
+    let from = view.at;
+    num1(s, from + i)
+}
