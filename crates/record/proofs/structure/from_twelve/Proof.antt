@@ -46,10 +46,7 @@ cast-ev-2 : tie.Need-cast-ev-2
 cast-ev-2 c = search needs
 
 slice-write-ev-2 : tie.Need-slice-write-ev-2
-slice-write-ev-2 c = let k = c .before .before .before .before .before .before in
-    let a = k .before .before .before .before .before in
-    let b = a .pre .3 in
-    omega (arith, length-set (a .args .ev .now) 0 (c .before .before .unordered .result))
+slice-write-ev-2 c = let b = c .before .before .before .before .before .before .before .before .before .before .before .pre .3 in simp length-set (omega arith)
 
 same-length : tie.Need-same-length
 same-length c = search needs

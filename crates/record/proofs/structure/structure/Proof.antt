@@ -49,9 +49,7 @@ cast-ev-2 : tie.Need-cast-ev-2
 cast-ev-2 c = search needs
 
 slice-write-ev-2 : tie.Need-slice-write-ev-2
-slice-write-ev-2 c = let a = c .before .before .before .before .before .before .before .before .before in
-    let b = a .pre .2 in
-    omega (arith, length-set (a .args .ev .now) 0 (c .before .num1 .result))
+slice-write-ev-2 c = let b = c .before .before .before .before .before .before .before .before .before .pre .2 in simp length-set (omega arith)
 
 same-length : tie.Need-same-length
 same-length c = search needs
