@@ -34,6 +34,25 @@ zero-judged [] a e k p = p
 zero-judged (q ∷ qs) a e k (inl p) = absurd (k .0 (p .0 .0) (p .0 .1 .has))
 zero-judged (q ∷ qs) a e k (inr p) = zero-judged qs a e (k .1) (p .1)
 
+-- rules after others: where one of the first is broken, the judgement is theirs; where all are kept, that of the rest
+pub judged-more : (qs rs : List Rule) (a : ℕ) (e : List ℕ) → (a ≡ 0 → ⊥) → Judged qs a e → Judged (qs ++ rs) a e
+unfolding Judged
+judged-more [] rs a e g p = absurd (g (p .0))
+judged-more (q ∷ qs) rs a e g (inl p) = inl p
+judged-more (q ∷ qs) rs a e g (inr p) = inr (p .0, judged-more qs rs a e g (p .1))
+
+pub judged-then : (qs rs : List Rule) (a : ℕ) (e : List ℕ) → AllKept qs → Judged rs a e → Judged (qs ++ rs) a e
+unfolding Judged
+judged-then [] rs a e k p = p
+judged-then (q ∷ qs) rs a e k p = inr (k .0, judged-then qs rs a e (k .1) p)
+
+-- the judgement goes on behind rules that are kept
+pub judged-behind : (qs rs : List Rule) (a : ℕ) (e : List ℕ) → AllKept qs → Judged (qs ++ rs) a e → Judged rs a e
+unfolding Judged
+judged-behind [] rs a e k j = j
+judged-behind (q ∷ qs) rs a e k (inl s) = absurd (k .0 (s .0 .0) (s .0 .1 .has))
+judged-behind (q ∷ qs) rs a e k (inr j) = judged-behind qs rs a e (k .1) (j .1)
+
 -- ---- a check, rule after rule
 pub rule-shown : (q : Rule) (qs : List Rule) (b a : List ℕ) (k : ℕ) → Ruled q b a k → 0 < k → Given (Judged (q ∷ qs)) b a (q .number) k
 unfolding Judged

@@ -1,15 +1,16 @@
 -- Rules about cycles: the cycle that is shown is their evidence. One relation under two names has the same cycles.
-use Prim.Native.Nat.{ℕ, _<_, _≤_}
+use Prim.Native.Nat.{ℕ, zero, suc, _<_, _≤_}
 use mathlib.Core.Path.{_≡_, refl}
 use mathlib.Core.Logic.{_⊎_, inl, inr}
-use mathlib.Core.List.{List, [], _∷_}
+use mathlib.Core.List.{List, [], _∷_, List·Memᴰ, List·Memᴰ·head, List·Memᴰ·tail}
 use native.Mathlib.Omega.{arith}
 use native.Mathlib.Decide.{decLt}
 use lib.ListN.{length}
 use Rattle.order.specs.Relation.{Rel, Trail, Cycle, Cyclic}
 use Rattle.order.specs.Dictionary.{Lex, Firstly}
-use Rattle.order.specs.Shown.{Shown}
+use Rattle.order.specs.Shown.{AtLeast, Begun, Shown}
 use Rattle.order.specs.Rule.{Shows, Kept, Round, Rounds, cycleRule, cyclesRule}
+use Rattle.order.proofs.Cycles.{turned}
 use Rattle.order.proofs.Dictionaries.{firstly-cons}
 
 module _ (R : Rel) where
@@ -69,3 +70,35 @@ shown-as R Q f g l s = record {
   begun = s .begun;
   least = λ m r e b. s .least m (cycle-as Q R g m r) e b;
 }
+
+-- ---- a relation that has a cycle has one begun at its least event, so a rule about cycles is kept only where there is none
+
+-- every event of the list is a or above, or one is below
+least-or : (a : ℕ) (l : List ℕ) → AtLeast a l ⊎ ((x : ℕ) × List·Memᴰ x l × (x < a))
+least-or a [] = inl tt
+least-or a (y ∷ l) = go (least-or a l) (decLt y a)
+  where
+    go : AtLeast a l ⊎ ((x : ℕ) × List·Memᴰ x l × (x < a)) → Dec (y < a) → AtLeast a (y ∷ l) ⊎ ((x : ℕ) × List·Memᴰ x (y ∷ l) × (x < a))
+    go s (yes h) = inr (y, List·Memᴰ·head refl, h)
+    go (inl s) (no h) = inl (omega arith, s)
+    go (inr (x, m, h)) (no g) = inr (x, List·Memᴰ·tail m, h)
+
+module _ (R : Rel) where
+  begun-from : (n a : ℕ) (l : List ℕ) → a < n → Trail R a l a → (m : List ℕ) × Cycle R m × Begun m
+  begun-from zero a l h t = absurd (omega arith)
+  begun-from (suc n) a l h t = go (begun-from n) (least-or a l)
+    where
+      go : ((b : ℕ) (m : List ℕ) → b < n → Trail R b m b → (m : List ℕ) × Cycle R m × Begun m)
+          → AtLeast a l ⊎ ((x : ℕ) × List·Memᴰ x l × (x < a)) → (m : List ℕ) × Cycle R m × Begun m
+      go rest (inl s) = (a ∷ l, t, s)
+      go rest (inr (x, i, g)) = let (m, c, e) = turned R (a ∷ l) x t (List·Memᴰ·tail i) in rest x m (omega arith) c
+
+  cyclic-round : Cyclic R → (w : List ℕ) × Round R w
+  cyclic-round ([], c) = absurd c
+  cyclic-round (a ∷ l, t) = let (m, c, b) = begun-from (suc a) a l (omega arith) t in (_ ∷ m, (refl, c, b))
+
+  pub kept-cycle : (number : ℕ) → Kept (cycleRule number R) → Cyclic R → ⊥
+  kept-cycle number k c = let (w, r) = cyclic-round c in k w r
+
+pub kept-cycles : (number n : ℕ) (R : ℕ → Rel) → Kept (cyclesRule number n R) → (p : ℕ) → p < n → Cyclic (R p) → ⊥
+kept-cycles number n R k p h c = let (w, r) = cyclic-round (R p) c in k (p ∷ w) (h, r)

@@ -7,6 +7,7 @@ pub mod Lengths
 pub mod Lockings
 pub mod Pairs
 pub mod Partners
+pub mod Passing
 pub mod Places
 pub mod Reading
 pub mod Sorts

@@ -3,6 +3,8 @@
 ghost use mathlib.Core.Path.{_≡_};
 ghost use mathlib.Core.Logic.{_⊎_};
 ghost use Prim.Native.Nat.{ℕ, _<_, _≤_};
+ghost use mathlib.Core.List.{_++_};
+ghost use lib.ListN.{take, drop};
 ghost use Rattle.order.specs.Decides.{Decides};
 ghost use Rattle.order.specs.Least.{Hit, Counted};
 ghost use Rattle.rows.specs.Members.{In, Is, Member, Meet};
@@ -157,6 +159,31 @@ pub fn join(t: &mut [u64], s: &[u64], n: usize)
     let mut a = 0;
     while a < n {
         add(t, a, row(s, a));
+        a += 1;
+    }
+}
+
+// Adds a step from each member of x to each member of y.
+pub fn spread(t: &mut [u64], x: Set, y: Set)
+    requires { ⌜ HasRows (now t) 64 ⌝ }
+    ensures { λ r. ⌜ Adds (now (t .entry)) (now (t .exit)) (λ a b. In x a × In y b) ⌝ }
+{
+    let mut from = x;
+    while any(from) {
+        let a = first(from);
+        add(t, a, y);
+        from = without(from, a);
+    }
+}
+
+// Replaces the first n rows by those of s.
+pub fn copy(t: &mut [u64], s: &[u64], n: usize)
+    requires { ⌜ HasRows (now t) n × HasRows (now s) n ⌝ }
+    ensures { λ r. ⌜ now (t .exit) ≡ take n (now (s .entry)) ++ drop n (now (t .entry)) ⌝ }
+{
+    let mut a = 0;
+    while a < n {
+        t[a] = s[a];
         a += 1;
     }
 }

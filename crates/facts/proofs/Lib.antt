@@ -1,0 +1,5 @@
+pub mod Counting
+pub mod Entering
+pub mod Listings
+pub mod Placing
+pub mod Sorting

@@ -1,0 +1,10 @@
+pub mod Demand2
+pub mod Cycles
+pub mod Decisions
+pub mod Lists
+pub mod Orders
+pub mod Serializations
+pub mod Sources
+pub mod Structures
+pub mod Views
+pub mod Words

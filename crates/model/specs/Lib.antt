@@ -1,0 +1,5 @@
+pub mod Demand2
+pub mod Hol
+pub mod Model
+pub mod Rules
+pub mod Says

@@ -1,0 +1,6 @@
+pub mod Earliest
+pub mod Instructions
+pub mod Programs
+pub mod Sourcing
+pub mod Unions
+pub mod Walking
