@@ -17,7 +17,8 @@ use Rattle.model.specs.Model.{Reads, Writes, Source, Sourced}
 use Rattle.model.specs.Rules.{Unsourced, Initially, WrongInitial}
 use Rattle.axioms.specs.Scene.{Scene}
 use Rattle.axioms.specs.Faults.{WrongFrom, Coded, Precedes}
-use Rattle.axioms.proofs.Sorts.{place-sym, reads-not, writes-is, reads-is}
+use Rattle.facts.proofs.Placing.{place-sym}
+use Rattle.axioms.proofs.Sorts.{reads-not, writes-is, reads-is}
 
 -- the search for event r's place, read as x, gave entry i of m
 module _ (z : Execution) (r : ℕ) (x : Event) (ex : x ≡ z .events .item r) (m : ℕ) (em : m ≡ z .initials .size) (i : ℕ)
@@ -42,7 +43,7 @@ module _ (z : Execution) (r : ℕ) (x : Event) (ex : x ≡ z .events .item r) (m
     coded-same e = let f : v ≡ z .events .item r .value = e ∙ value in let k = initial in inr (inr (refl, rw f at k))
 
 -- a place has one initial value
-initially-unique : (z : Execution) (x : Event) (v w : ℕ) → Initially z x v → Initially z x w → v ≡ w
+pub initially-unique : (z : Execution) (x : Event) (v w : ℕ) → Initially z x v → Initially z x w → v ≡ w
 initially-unique z x v w (i, l, (a, b, c)) (j, k, (d, e, f)) =
     let g : i ≡ j = least-unique (λ n. InitialFor x (z .initials .item n)) i j (a, b) (d, e) in
     sym c ∙ ap (λ (n : ℕ). z .initials .item n .value) g ∙ f

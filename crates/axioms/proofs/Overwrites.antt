@@ -1,6 +1,6 @@
 -- Rule 25: the writes that stand between a read and its source.
 use Prim.Native.Nat.{ℕ, _<_, _≤_}
-use mathlib.Core.Path.{_≡_, sym, ap}
+use mathlib.Core.Path.{_≡_, ap}
 use mathlib.Core.Bool.{Bool}
 use mathlib.Core.Logic.{_⊎_, inl, inr, ⊎-elim}
 use mathlib.Core.List.{List}
@@ -14,16 +14,13 @@ use Rattle.rows.specs.Table.{rel}
 use Rattle.rows.specs.declared.Set.{Set}
 use Rattle.rows.proofs.Members.{in-low}
 use Rattle.record.specs.Execution.{Execution}
-use Rattle.record.specs.Words.{SamePlace}
 use Rattle.record.specs.declared.Event.{Event}
 use Rattle.facts.specs.declared.Classes.{Classes}
+use Rattle.facts.proofs.Placing.{place-sym}
 use Rattle.model.specs.Model.{Reads, Writes, Source, ViewOrder}
 use Rattle.model.specs.Rules.{Overwritten}
 use Rattle.axioms.specs.Scene.{Sources, Scene}
-
-turned : (x y : Event) → SamePlace x y → SamePlace y x
-turned x y (inl (a, (b, e))) = inl (b, (a, sym e))
-turned x y (inr (a, (b, (e, f)))) = inr (b, (a, (sym e, sym f)))
+use Rattle.axioms.proofs.Sorts.{writes-is}
 
 apart : (x y : Event) → Writes x → Reads y → x .kind ≡ y .kind → ⊥
 apart x y (inl w) (inl r) e = omega arith
@@ -38,10 +35,10 @@ module _ (z : Execution) (p : ℕ) (t q : List ℕ) (c : Classes) (seen : Set) (
 
   module _ (either : Set) (u : Is either (λ k. In (c .stores) k ⊎ In (c .puts) k)) where
     writes : (k : ℕ) → In either k → Writes (z .events .item k)
-    writes k i = ⊎-elim (λ m. inl (s .classes .stores .says k m .1)) (λ m. inr (s .classes .puts .says k m .1)) (u .says k i)
+    writes k i = writes-is z c (s .classes) either u .says k i .1
 
     write-in : (k : ℕ) → k < z .events .size → Writes (z .events .item k) → In either k
-    write-in k l h = u .has k (⊎-elim (λ e. inl (s .classes .stores .has k (l, e))) (λ e. inr (s .classes .puts .has k (l, e))) h)
+    write-in k l h = writes-is z c (s .classes) either u .has k (l, h)
 
     module _ (w r : ℕ) (o : Source z w r) (iw : In seen w) (ir : In seen r) (place own behind late both past out : Set)
         (ip : Is place (rel q r)) (io : Is own (λ k. In either k × In place k)) (ib : Is behind (rel t w)) (il : Is late (λ k. In behind k × In seen k))
@@ -60,7 +57,7 @@ module _ (z : Execution) (p : ℕ) (t q : List ℕ) (c : Classes) (seen : Set) (
             o,
             (s .view .sees .says w iw, s .view .sees .says r ir),
             (λ d. s .view .once w (rw d at after)),
-            (kind, turned (z .events .item r) (z .events .item k) (s .places .pairs r k .0 (ip .says k h) .2)),
+            (kind, place-sym (z .events .item r) (z .events .item k) (s .places .pairs r k .0 (ip .says k h) .2)),
             after,
             ⊎-elim (λ y. y) (λ y. absurd (g (iq .has k (s .view .order r k ir v .1 y)))) (s .view .total k r v ir other),
           )
@@ -72,7 +69,7 @@ module _ (z : Execution) (p : ℕ) (t q : List ℕ) (c : Classes) (seen : Set) (
           let l = seen-low k v in
           i .has k (
             im .has k (
-              io .has k (write-in k l kind, ip .has k (s .places .pairs r k .1 (seen-low r ir, l, turned (z .events .item k) (z .events .item r) place))),
+              io .has k (write-in k l kind, ip .has k (s .places .pairs r k .1 (seen-low r ir, l, place-sym (z .events .item k) (z .events .item r) place))),
               il .has k (ib .has k (s .view .order w k iw v .1 after), v),
             ),
             λ y. s .view .opposite k r before (s .view .order r k ir v .0 (iq .says k y)),

@@ -1,20 +1,15 @@
--- The sets of the writes and of the reads, and events at one place.
+-- The sets of the writes and of the reads.
 use Prim.Native.Nat.{ℕ, _<_}
-use mathlib.Core.Path.{_≡_, sym}
+use mathlib.Core.Path.{_≡_}
 use mathlib.Core.Logic.{_⊎_, inl, inr, ⊎-elim}
 use native.Mathlib.Omega.{arith}
 use Rattle.rows.specs.Members.{In, Is}
 use Rattle.rows.specs.declared.Set.{Set}
 use Rattle.record.specs.Execution.{Execution}
-use Rattle.record.specs.Words.{SamePlace}
 use Rattle.record.specs.declared.Event.{Event}
 use Rattle.facts.specs.Facts.{Classed}
 use Rattle.facts.specs.declared.Classes.{Classes}
 use Rattle.model.specs.Model.{Reads, Writes}
-
-pub place-sym : (x y : Event) → SamePlace x y → SamePlace y x
-place-sym x y (inl (a, (b, e))) = inl (b, (a, sym e))
-place-sym x y (inr (a, (b, (e, f)))) = inr (b, (a, (sym e, sym f)))
 
 pub reads-not : (x : Event) → Reads x → Writes x → ⊥
 reads-not x (inl r) (inl w) = omega arith

@@ -1,5 +1,5 @@
 -- What is known of a processor's view when the rules after 24 are judged.
-use Prim.Native.Nat.{ℕ, _<_, _≤_}
+use Prim.Native.Nat.{ℕ, _<_}
 use mathlib.Core.Path.{_≡_}
 use mathlib.Core.Logic.{_⊎_, _↔_}
 use mathlib.Core.List.{List}
@@ -7,7 +7,7 @@ use Rattle.rows.specs.Members.{In, Is}
 use Rattle.rows.specs.Table.{HasRows, rel}
 use Rattle.rows.specs.declared.Set.{Set}
 use Rattle.record.specs.Execution.{Execution}
-use Rattle.facts.specs.Facts.{Placed, Mated, Classed}
+use Rattle.facts.specs.Facts.{Placed, Classed}
 use Rattle.facts.specs.declared.Classes.{Classes}
 use Rattle.model.specs.Model.{Source, Sees, ViewOrder}
 use Rattle.model.specs.Rules.{WriteAndRead}

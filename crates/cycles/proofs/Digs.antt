@@ -1,148 +1,255 @@
 -- One path, depth first: what holds between the turns of `left`.
-use Prim.Native.Nat.{ℕ, zero, suc, _+_, _-_, _<_, _≤_}
-use mathlib.Core.Path.{_≡_, refl, ap, _∙_}
-use mathlib.Core.List.{List}
-use mathlib.Core.Logic.{_⊎_, ⊎-elim}
+use Prim.Native.Nat.{ℕ, zero, suc, _+_, _<_, _≤_}
+use mathlib.Core.Path.{_≡_, refl, _∙_}
+use mathlib.Core.List.{List, [], _∷_}
+use mathlib.Core.Logic.{_⊎_, inl, inr, ⊎-elim}
 use native.Mathlib.Omega.{arith}
-use lib.ListN.{length, getD, set, length-set}
+use native.Mathlib.Decide.{ℕ-discrete}
+use lib.ListN.{length, getD, set, length-set, replicate, getD-replicate}
 use lib.Seq.{getD-set-same, getD-set-other}
-use Rattle.order.specs.Relation.{Cyclic}
 use Rattle.order.specs.Least.{Hit}
 use Rattle.order.specs.Walk.{Walk}
-use Rattle.order.proofs.Numbers.{last-or}
-use Rattle.order.proofs.Searches.{found-less}
-use Rattle.order.proofs.Walks.{peel, cut, snoc, within-below}
+use Rattle.order.proofs.Walks.{peel, snoc}
 use Rattle.order.proofs.Cycles.{walk-cyclic}
-use Rattle.rows.specs.Members.{In, Is, Member, value}
+use Rattle.rows.specs.Members.{In, Is, Member, Meet, value}
 use Rattle.rows.specs.Table.{rel, on}
 use Rattle.rows.specs.declared.Set.{Set}
-use Rattle.rows.proofs.Members.{in-low, subset-less}
-use Rattle.cycles.specs.Search.{Left, Ahead}
+use Rattle.rows.proofs.Members.{in-low, first-in, subset-less}
+use Rattle.cycles.specs.Search.{Left}
 
--- every closed walk is in live; the path's events are too, each with a step to the next
-pub record Digging (t : List ℕ) (n : ℕ) (live : Set) (path : List ℕ) (deep : ℕ) : Type 0 where
-  pub upto : deep ≤ n
-  pub same : length path ≡ 64
+-- the path has been at x
+abbrev pub Been : List ℕ → ℕ → Type 0
+Been from x = getD from x 0 ≡ 64 → ⊥
+
+-- the path goes from x to v in k steps
+abbrev pub Along : List ℕ → ℕ → ℕ → ℕ → Type 0
+Along from zero x v = x ≡ v
+Along from (suc k) x v = (getD from v 0 ≡ v → ⊥) × Along from k x (getD from v 0)
+
+-- every closed walk is in live, and no path has been there
+pub record Fresh (t : List ℕ) (n : ℕ) (live : Set) (from : List ℕ) : Type 0 where
+  pub same : length from ≡ 64
   pub low : (a : ℕ) → In live a → a < n
   pub covers : (k a : ℕ) → Walk (on n t) (suc k) a a → In live a
-  pub inside : (i : ℕ) → i < deep → In live (getD path i 0)
-  pub steps : (i : ℕ) → i + 1 < deep → rel t (getD path i 0) (getD path (i + 1) 0)
+  pub fresh : (x : ℕ) → In live x → getD from x 0 ≡ 64
+
+-- every closed walk is in live; where the path has been and what is live is the path to v
+pub record Digging (t : List ℕ) (n : ℕ) (live : Set) (from : List ℕ) (v : ℕ) : Type 0 where
+  pub same : length from ≡ 64
+  pub low : (a : ℕ) → In live a → a < n
+  pub covers : (k a : ℕ) → Walk (on n t) (suc k) a a → In live a
+  pub here : In live v
+  pub been : Been from v
+  pub back : (x : ℕ) → In live x → Been from x
+      → (getD from x 0 ≡ x) ⊎ (In live (getD from x 0) × Been from (getD from x 0) × rel t (getD from x 0) x)
+  pub path : (x : ℕ) → In live x → Been from x → (k : ℕ) × Along from k x v
+
+-- ---- how many events the path has not been at
+
+abbrev one : (x : ℕ) → Dec (x ≡ 64) → ℕ
+one x (yes e) = 1
+one x (no g) = 0
+
+unfoldable pub free : List ℕ → ℕ
+free [] = 0
+free (x ∷ l) = one x (ℕ-discrete x 64) + free l
+
+one-le : (x : ℕ) (d : Dec (x ≡ 64)) → one x d ≤ 1
+one-le x (yes e) = omega arith
+one-le x (no g) = omega arith
+
+one-yes : (x : ℕ) (d : Dec (x ≡ 64)) → x ≡ 64 → one x d ≡ 1
+one-yes x (yes e) h = refl
+one-yes x (no g) h = absurd (g h)
+
+one-no : (x : ℕ) (d : Dec (x ≡ 64)) → (x ≡ 64 → ⊥) → one x d ≡ 0
+one-no x (yes e) h = absurd (h e)
+one-no x (no g) h = refl
+
+pub free-most : (l : List ℕ) → free l ≤ length l
+unfolding free
+free-most [] = omega arith
+free-most (x ∷ l) = omega (arith, free-most l, one-le x (ℕ-discrete x 64))
+
+pub free-less : (l : List ℕ) (i x : ℕ) → i < length l → getD l i 0 ≡ 64 → (x ≡ 64 → ⊥) → free (set l i x) < free l
+unfolding free
+free-less [] i x h e g = absurd (omega arith)
+free-less (y ∷ l) zero x h e g = omega (arith, one-yes y (ℕ-discrete y 64) e, one-no x (ℕ-discrete x 64) g)
+free-less (y ∷ l) (suc i) x h e g = omega (arith, free-less l i x (omega arith) e g)
+
+-- ---- a path begins
 
 module _ (t : List ℕ) (n : ℕ) where
-  pub dig-begin : (live : Set) (path : List ℕ) → length path ≡ 64 → Is live (λ k. k < n) → Digging t n live path 0
-  dig-begin live path e i = record {
-    upto = omega arith;
-    same = e;
+  pub fresh-begin : (live : Set) → Is live (λ k. k < n) → Fresh t n live (replicate 64 64)
+  fresh-begin live i = record {
+    same = refl;
     low = i .says;
     covers = λ k a w. i .has a (w .1 .0);
-    inside = λ i h. absurd (omega arith);
-    steps = λ i h. absurd (omega arith);
+    fresh = λ x m. getD-replicate 64 x 64 0 (in-low live x m);
   }
 
-  module _ (live : Set) (path : List ℕ) (deep : ℕ) (p : Digging t n live path deep) where
-    -- the path's last event has a row
-    pub dig-low : 0 < deep → getD path (deep - 1) 0 < n
-    dig-low h = p .low _ (p .inside (deep - 1) (omega arith))
+  module _ (live : Set) (from : List ℕ) (p : Fresh t n live from) where
+    pub fresh-start : (a : ℕ) → In live a → Digging t n live (set from a a) a
+    fresh-start a i = record {
+      same = length-set from a a ∙ p .same;
+      low = p .low;
+      covers = p .covers;
+      here = i;
+      been = λ e. let l = in-low live a i in let f = there in omega arith;
+      back = λ x j b. let e = only x j b in inl (rw e there);
+      path = λ x j b. (0, only x j b);
+    }
+      where
+        there : getD (set from a a) a 0 ≡ a
+        there = let l = in-low live a i in getD-set-same from a a 0 (omega (arith, p .same))
 
-    -- the path's walk, from place i on
-    along : (j i : ℕ) → i + j < deep → Walk (on n t) j (getD path i 0) (getD path (i + j) 0)
-    along zero i h = let e : i ≡ i + 0 = omega arith in ap (λ (k : ℕ). getD path k 0) e
-    along (suc j) i h =
-        let e : i + suc j ≡ i + j + 1 = omega arith in
-        rw e (snoc (on n t) j _ _ _ (along j i (omega arith)) (
-          p .low _ (p .inside (i + j) (omega arith)),
-          p .low _ (p .inside (i + j + 1) (omega arith)),
-          p .steps (i + j) (omega arith),
-        ))
-
-    module _ (next : Set) (q : Is next (Ahead t live path deep)) where
-      -- the path cannot go on
-      module _ (some : Member live) (stuck : Member next → ⊥) where
-        pub dig-deep : 0 < deep
-        dig-deep = go deep refl
+        only : (x : ℕ) → In live x → Been (set from a a) x → x ≡ a
+        only x j b = go (ℕ-discrete x a)
           where
-            go : (d : ℕ) → d ≡ deep → 0 < deep
-            go zero e = absurd (stuck (some .0, q .has (some .0) (some .1, λ h. absurd (omega arith))))
-            go (suc d) e = omega arith
+            go : Dec (x ≡ a) → x ≡ a
+            go (yes e) = e
+            go (no g) = absurd (b (getD-set-other from a x a 0 g ∙ p .fresh x j))
 
-        v : ℕ
-        v = getD path (deep - 1) 0
+    pub fresh-done : (Member live → ⊥) → Left (on n t) live
+    fresh-done f = record { covers = p .covers; cyclic = λ a i. absurd (f (a, i)) }
 
-        no-step : (c : ℕ) → rel t v c → In live c → ⊥
-        unfolding v
-        no-step c r i = stuck (c, q .has c (i, λ h. r))
+  -- ---- it goes on, closes a cycle, or goes back
 
-        pub dig-in : In live (getD path (deep - 1) 0)
-        dig-in = let h = dig-deep in p .inside (deep - 1) (omega arith)
+  module _ (live : Set) (from : List ℕ) (v : ℕ) (p : Digging t n live from v) where
+    walk : (k x u : ℕ) → In live u → Been from u → Along from k x u → Walk (on n t) k x u
+    walk zero x u i b e = e
+    walk (suc k) x u i b (g, h) =
+        ⊎-elim
+        (λ e. absurd (g e))
+        (λ q. snoc (on n t) k x _ u (walk k x _ (q .0) (q .1) h) (p .low _ (q .0), p .low u i, q .2))
+        (p .back u i b)
 
-        pub dig-back : (rest : Set) → Is rest (λ j. In live j × (j ≡ getD path (deep - 1) 0 → ⊥)) → Digging t n rest path (deep - 1)
-        unfolding v
-        dig-back rest i = record {
-          upto = let h = p .upto in omega arith;
-          same = p .same;
-          low = λ a r. p .low a (i .says a r .0);
-          covers = λ k a w. i .has a (p .covers k a w, peel (on n t) (In live) v (p .covers) (λ c r. no-step c (r .2)) k a w);
-          inside = λ j h. i .has _ (p .inside j (omega arith), λ e. no-step (getD path (j + 1) 0) (rw e at (p .steps j (omega arith))) (p .inside (j + 1) (omega arith)));
-          steps = λ j h. p .steps j (omega arith);
+    -- an event without a step into live is taken out
+    module _ (u : ℕ) (i : In live u) (stuck : (c : ℕ) → rel t u c → In live c → ⊥) (rest : Set) (q : Is rest (λ j. In live j × (j ≡ u → ⊥))) where
+      pub dig-less : value rest < value live
+      dig-less = subset-less live rest (λ k r. q .says k r .0) u i (λ r. q .says u r .1 refl)
+
+      covers : (k a : ℕ) → Walk (on n t) (suc k) a a → In rest a
+      covers k a w = q .has a (p .covers k a w, peel (on n t) (In live) u (p .covers) (λ c r. stuck c (r .2)) k a w)
+
+      back : (x : ℕ) → In rest x → Been from x → (getD from x 0 ≡ x) ⊎ (In rest (getD from x 0) × Been from (getD from x 0) × rel t (getD from x 0) x)
+      back x j b = ⊎-elim (λ e. inl e) (λ m. inr (q .has _ (m .0, λ e. stuck x (rw e at (m .2)) (q .says x j .0)), m .1, m .2)) (p .back x (q .says x j .0) b)
+
+    module _ (w : ℕ) (i : In live w) (r : rel t v w) where
+      -- the path can go to w, which ends there
+      pub dig-leaf : (stuck : (c : ℕ) → rel t w c → In live c → ⊥) (rest : Set) → Is rest (λ j. In live j × (j ≡ w → ⊥)) → Digging t n rest from v
+      dig-leaf stuck rest q = record {
+        same = p .same;
+        low = λ a j. p .low a (q .says a j .0);
+        covers = covers w i stuck rest q;
+        here = q .has v (p .here, λ e. stuck w (rw e at r) i);
+        been = p .been;
+        back = back w i stuck rest q;
+        path = λ x j b. p .path x (q .says x j .0) b;
+      }
+
+      -- it has been at w
+      pub dig-found : Been from w → Left (on n t) live
+      dig-found b =
+          let (k, h) = p .path w i b in
+          let c = walk-cyclic (on n t) k w (snoc (on n t) k w v w (walk k w v (p .here) (p .been) h) (p .low v (p .here), p .low w i, r)) in
+          record { covers = p .covers; cyclic = λ a j. c }
+
+      -- it goes to w
+      module _ (e : getD from w 0 ≡ 64) where
+        there : getD (set from w v) w 0 ≡ v
+        there = let l = in-low live w i in getD-set-same from w v 0 (omega (arith, p .same))
+
+        other : (y : ℕ) → (y ≡ w → ⊥) → getD (set from w v) y 0 ≡ getD from y 0
+        other y g = getD-set-other from w y v 0 g
+
+        -- it was not at w
+        apart : (y : ℕ) → Been from y → y ≡ w → ⊥
+        apart y b f = b (rw f e)
+
+        still : (y : ℕ) → Been from y → Been (set from w v) y
+        still y b = rw (other y (apart y b)) b
+
+        along : (k x y : ℕ) → In live y → Been from y → Along from k x y → Along (set from w v) k x y
+        along zero x y j b h = h
+        along (suc k) x y j b (g, h) =
+            ⊎-elim
+            (λ f. absurd (g f))
+            (λ m. rw (other y (apart y b)) (g, along k x _ (m .0) (m .1) h))
+            (p .back y j b)
+
+        pub dig-on : Digging t n live (set from w v) w
+        dig-on = record {
+          same = length-set from w v ∙ p .same;
+          low = p .low;
+          covers = p .covers;
+          here = i;
+          been = λ f. let l = in-low live v (p .here) in let h = there in omega arith;
+          back = λ x j b. back′ x j b (ℕ-discrete x w);
+          path = λ x j b. path′ x j b (ℕ-discrete x w);
         }
+          where
+            before : (x : ℕ) → (x ≡ w → ⊥) → Been (set from w v) x → Been from x
+            before x g b = rw (other x g) at b
 
-        pub dig-less : (rest : Set) → Is rest (λ j. In live j × (j ≡ getD path (deep - 1) 0 → ⊥)) → value rest < value live
-        dig-less rest i = subset-less live rest (λ k r. i .says k r .0) _ dig-in (λ r. i .says _ r .1 refl)
+            back′ : (x : ℕ) → In live x → Been (set from w v) x → Dec (x ≡ w)
+                → (getD (set from w v) x 0 ≡ x) ⊎ (In live (getD (set from w v) x 0) × Been (set from w v) (getD (set from w v) x 0) × rel t (getD (set from w v) x 0) x)
+            back′ x j b (yes f) = rw (f, there) (inr (p .here, still v (p .been), r))
+            back′ x j b (no g) = rw (other x g) (⊎-elim (λ f. inl f) (λ m. inr (m .0, still _ (m .1), m .2)) (p .back x j (before x g b)))
 
-      -- it can, and is as long as it may be
-      pub dig-found : Member next → deep ≡ n → Left (on n t) live
-      dig-found (x, i) full = record { covers = p .covers; cyclic = λ a j. go deep refl }
-        where
-          here : In live x × (0 < deep → rel t (getD path (deep - 1) 0) x)
-          here = q .says x i
+            path′ : (x : ℕ) → In live x → Been (set from w v) x → Dec (x ≡ w) → (k : ℕ) × Along (set from w v) k x w
+            path′ x j b (yes f) = (0, f)
+            path′ x j b (no g) =
+                let (k, h) = p .path x j (before x g b) in
+                (suc k, ((λ f. apart v (p .been) (rw there at f)), rw there (along k x v (p .here) (p .been) h)))
 
-          go : (d : ℕ) → d ≡ deep → Cyclic (on n t)
-          go zero e = let l = p .low x (here .0) in absurd (omega arith)
-          go (suc d) e =
-              let f : deep - 1 ≡ d = omega arith in
-              let z : 0 + d ≡ d = omega arith in
-              let w = rw z at (along d 0 (omega arith)) in
-              let r = here .1 (omega arith) in
-              let s = snoc (on n t) d _ _ x w (p .low _ (p .inside d (omega arith)), p .low x (here .0), rw f at r) in
-              let (m, b, u, h) = cut (on n t) n (within-below n (rel t)) d _ x s (omega arith) in
-              walk-cyclic (on n t) m b u
-
-      -- it can, and does
-      pub dig-on : Member next → (deep ≡ n → ⊥) → n ≤ 64 → (x : ℕ) → Hit 64 (In next) x → Digging t n live (set path deep x) (deep + 1)
-      dig-on (y, i) ne h x f = record {
-        upto = let l = p .upto in omega arith;
-        same = length-set path deep x ∙ p .same;
-        low = p .low;
-        covers = p .covers;
-        inside = λ j l. ⊎-elim (λ (e : j ≡ deep). rw e (rw there (here .0))) (λ l. rw (other j (omega arith)) (p .inside j l)) (last-or deep j (omega arith));
-        steps = λ j l. ⊎-elim (λ (e : j + 1 ≡ deep). rw (other j (omega arith)) (rw (e, there) (last j e))) (λ l. rw (other j (omega arith), other (j + 1) (omega arith)) (p .steps j l)) (last-or deep (j + 1) (omega arith));
+    -- v has no step into live
+    module _ (stuck : (c : ℕ) → rel t v c → In live c → ⊥) (rest : Set) (q : Is rest (λ j. In live j × (j ≡ v → ⊥))) where
+      -- the path began at v
+      pub dig-end : getD from v 0 ≡ v → Fresh t n rest from
+      dig-end e = record {
+        same = p .same;
+        low = λ a j. p .low a (q .says a j .0);
+        covers = covers v (p .here) stuck rest q;
+        fresh = λ x j. fresh x j (ℕ-discrete (getD from x 0) 64);
       }
         where
-          less : x < 64
-          less = found-less 64 x y (In next) f i (in-low next y i)
+          gone : (x : ℕ) → In rest x → (k : ℕ) → Along from k x v → ⊥
+          gone x j zero h = q .says x j .1 h
+          gone x j (suc k) h = h .0 e
 
-          here : In live x × (0 < deep → rel t (getD path (deep - 1) 0) x)
-          here = q .says x (f .hit less)
+          fresh : (x : ℕ) → In rest x → Dec (getD from x 0 ≡ 64) → getD from x 0 ≡ 64
+          fresh x j (yes f) = f
+          fresh x j (no b) = let (k, h) = p .path x (q .says x j .0) b in absurd (gone x j k h)
 
-          there : getD (set path deep x) deep 0 ≡ x
-          there = let l = p .upto in getD-set-same path deep x 0 (omega (arith, p .same))
+      -- it came from another
+      pub dig-back : (getD from v 0 ≡ v → ⊥) → Digging t n rest from (getD from v 0)
+      dig-back g = record {
+        same = p .same;
+        low = λ a j. p .low a (q .says a j .0);
+        covers = covers v (p .here) stuck rest q;
+        here = q .has _ (came .0, g);
+        been = came .1;
+        back = back v (p .here) stuck rest q;
+        path = λ x j b. let (k, h) = p .path x (q .says x j .0) b in shorter x j k h;
+      }
+        where
+          came : In live (getD from v 0) × Been from (getD from v 0) × rel t (getD from v 0) v
+          came = ⊎-elim (λ e. absurd (g e)) (λ m. m) (p .back v (p .here) (p .been))
 
-          other : (j : ℕ) → (j ≡ deep → ⊥) → getD (set path deep x) j 0 ≡ getD path j 0
-          other j g = getD-set-other path deep j x 0 g
+          shorter : (x : ℕ) → In rest x → (k : ℕ) → Along from k x v → (l : ℕ) × Along from l x (getD from v 0)
+          shorter x j zero h = absurd (q .says x j .1 h)
+          shorter x j (suc k) h = (k, h .1)
 
-          last : (j : ℕ) → j + 1 ≡ deep → rel t (getD path j 0) x
-          last j e = let z : deep - 1 ≡ j = omega arith in rw z at (here .1 (omega arith))
+-- ---- what the sets say
 
-    pub dig-done : (Member live → ⊥) → Left (on n t) live
-    dig-done f = record { covers = p .covers; cyclic = λ a i. absurd (f (a, i)) }
+module _ (t : List ℕ) (live : Set) (v : ℕ) (row : Set) (ir : Is row (rel t v)) where
+  pub no-meet : (Meet row live → ⊥) → (c : ℕ) → rel t v c → In live c → ⊥
+  no-meet f c r i = f (c, ir .has c r, i)
 
--- where a path can go on
-pub ahead-first : (t : List ℕ) (live : Set) (path : List ℕ) (deep : ℕ) → deep ≡ 0 → Is live (Ahead t live path deep)
-ahead-first t live path deep e = record { says = λ x i. (i, λ h. absurd (omega arith)); has = λ x h. h .0 }
+  module _ (next : Set) (q : Is next (λ k. In row k × In live k)) where
+    pub no-next : (Member next → ⊥) → (c : ℕ) → rel t v c → In live c → ⊥
+    no-next f c r i = f (c, q .has c (ir .has c r, i))
 
-pub ahead-next : (t : List ℕ) (live : Set) (path : List ℕ) (deep : ℕ) (w r : Set) → (deep ≡ 0 → ⊥)
-    → Is w (rel t (getD path (deep - 1) 0)) → Is r (λ x. In w x × In live x) → Is r (Ahead t live path deep)
-ahead-next t live path deep w r g i j = record {
-  says = λ x m. let p = j .says x m in (p .1, λ h. i .says x (p .0));
-  has = λ x h. j .has x (i .has x (h .1 (omega arith)), h .0);
-}
+    pub next-in : Member next → (w : ℕ) → Hit 64 (In next) w → In live w × rel t v w
+    next-in m w f = let h = q .says w (first-in next m w f) in (h .1, ir .says w (h .0))

@@ -1,21 +1,14 @@
 -- What the functions find on their way to the cycle that is shown. R is the relation of a table's first n rows.
-use Prim.Native.Nat.{ℕ, suc, _-_, _<_, _≤_}
-use mathlib.Core.List.{List}
-use lib.ListN.{getD}
+use Prim.Native.Nat.{ℕ, suc, _<_, _≤_}
 use Rattle.order.specs.Relation.{Rel, Cyclic}
 use Rattle.order.specs.Walk.{Walk}
 use Rattle.rows.specs.Members.{In}
-use Rattle.rows.specs.Table.{rel}
 use Rattle.rows.specs.declared.Set.{Set}
 
 -- every closed walk is in s, and where s has a member there is a cycle
 pub record Left (R : Rel) (s : Set) : Type 0 where
   pub covers : (k a : ℕ) → Walk R (suc k) a a → In s a
   pub cyclic : (a : ℕ) → In s a → Cyclic R
-
--- x is in live and, where the path has an event, its last has a step to x
-abbrev pub Ahead : List ℕ → Set → List ℕ → ℕ → ℕ → Type 0
-Ahead t live path deep x = In live x × (0 < deep → rel t (getD path (deep - 1) 0) x)
 
 -- a member of w has a step to b
 abbrev pub From : Rel → Set → ℕ → Type 0

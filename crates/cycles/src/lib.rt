@@ -1,14 +1,14 @@
 // Cycles of the relation in the first n rows of a table.
 // Promises: whether there is a cycle, in one cheap pass; the cycle that is shown, written into a lent part; who reaches whom.
 ghost use mathlib.Core.Path.{_≡_};
-ghost use Prim.Native.Nat.{ℕ, _-_, _≤_, _<_};
-ghost use lib.ListN.{length, getD};
+ghost use Prim.Native.Nat.{ℕ, _≤_, _<_};
+ghost use lib.ListN.{length};
 ghost use Rattle.order.specs.Decides.{Decides};
 ghost use Rattle.order.specs.Least.{Hit};
 ghost use Rattle.order.specs.Relation.{Cyclic, Chain};
 ghost use Rattle.rows.specs.Members.{In, Is, Member};
 ghost use Rattle.rows.specs.Table.{HasRow, HasRows, rel, on};
-ghost use Rattle.cycles.specs.Search.{Left, Ahead, From, Into, Away, Distance, Shortest};
+ghost use Rattle.cycles.specs.Search.{Left, From, Into, Away, Distance, Shortest};
 ghost use Rattle.cycles.specs.Showing.{Showing, Exhibited};
 use rows::Set;
 
@@ -19,39 +19,45 @@ fn wide(x: u8) -> usize
 }
 
 // What is left of the events below n when events with no step into what is left are taken away: one path, depth first, that
-// goes back where it cannot go on. A path of n events that goes on has met an event twice: there is a cycle, and the rest is
-// not looked at.
+// goes back where it cannot go on. Each event that it goes to keeps the event that it came from (the first itself), the others 64.
+// A step to an event on the path closes a cycle, and the rest is not looked at.
 pub fn left(t: &[u64], n: usize) -> Set
     requires { ⌜ (n ≤ 64) × HasRows (now t) n ⌝ }
     ensures { λ r. ⌜ Left (on n (now (t .entry))) r ⌝ }
 {
     let mut live = rows::full(n);
-    let mut path = [0u8; 64];
-    let mut deep = 0;
-    while rows::any(live) {
-        let next = ahead(t, live, &path, deep);
-        if !rows::any(next) {
-            deep -= 1;
-            live = rows::without(live, wide(path[deep]));
-        } else if deep == n {
-            return live;
-        } else {
-            path[deep] = rows::first(next) as u8;
-            deep += 1;
-        }
-    }
-    live
-}
-
-// Where the path can go on: to any live event if it has none, else to those that its last event has a step to.
-fn ahead(t: &[u64], live: Set, path: &[u8; 64], deep: usize) -> Set
-    requires { ⌜ (deep ≤ 64) × (0 < deep → HasRow (now t) (getD (now path) (deep - 1) 0)) ⌝ }
-    ensures { λ r. ⌜ Is r (Ahead (now (t .entry)) live (now (path .entry)) deep) ⌝ }
-{
-    if deep == 0 {
+    if n == 0 {
         return live;
     }
-    rows::common(rows::row(t, wide(path[deep - 1])), live)
+    let mut from = [64u8; 64];
+    from[0] = 0;
+    let mut v = 0;
+    loop {
+        let next = rows::common(rows::row(t, v), live);
+        if rows::any(next) {
+            let w = rows::first(next);
+            if !rows::meets(rows::row(t, w), live) {
+                live = rows::without(live, w);
+            } else if from[w] == 64 {
+                from[w] = v as u8;
+                v = w;
+            } else {
+                return live;
+            }
+        } else {
+            live = rows::without(live, v);
+            let p = wide(from[v]);
+            if p == v {
+                v = rows::first(live);
+                if n <= v {
+                    return live;
+                }
+                from[v] = v as u8;
+            } else {
+                v = p;
+            }
+        }
+    }
 }
 
 // Whether there is a cycle.

@@ -1,5 +1,5 @@
 -- What the tables and sets of facts have, of an execution.
-use Prim.Native.Nat.{ℕ, _+_, _<_}
+use Prim.Native.Nat.{ℕ, _+_, _%_, _<_}
 use mathlib.Core.Path.{_≡_}
 use mathlib.Core.Logic.{_⊎_, _↔_}
 use mathlib.Core.List.{List}
@@ -23,6 +23,11 @@ pub record Sorted (x : Execution) (f : List ℕ) : Type 0 where
   pub rows : HasRows f 8
   pub own : (p e : ℕ) → p < 4 → rel f p e ↔ ((e < x .events .size) × (x .events .item e .processor ≡ p))
   pub kind : (k e : ℕ) → k < 4 → rel f (4 + k) e ↔ ((e < x .events .size) × (x .events .item e .kind ≡ k))
+
+-- row v has the events whose place is v modulo 64
+pub record Slotted (x : Execution) (t : List ℕ) : Type 0 where
+  pub rows : HasRows t 64
+  pub pairs : (v e : ℕ) → rel t v e ↔ ((e < x .events .size) × (v ≡ x .events .item e .place % 64))
 
 -- k is a memory event as e is, or a register event of its processor
 abbrev pub Peers : Execution → ℕ → ℕ → Type 0
@@ -58,11 +63,15 @@ pub record Classed (x : Execution) (c : Classes) : Type 0 where
   pub puts : Is (c .puts) (λ e. (e < x .events .size) × (x .events .item e .kind ≡ 3))
   pub locked : Is (c .locked) (λ e. Some (x .locks .size) (λ i. Enters x i e))
 
--- a record that has the form, where its sections stand, and the facts of its events
-pub record Gathered (s : List ℕ) (l : Layout) (f q k : List ℕ) (c : Classes) : Type 0 where
+-- a record that has the form, where its sections stand, its events by place and by class
+pub record Ready (s : List ℕ) (l : Layout) (q : List ℕ) (c : Classes) : Type 0 where
   pub right : Right s
   pub laid : Laid s l
-  pub sorted : Sorted (executionOf s) f
   pub placed : Placed (executionOf s) q
-  pub entered : Entered (executionOf s) k
   pub classed : Classed (executionOf s) c
+
+-- and by processor and locked entry
+pub record Gathered (s : List ℕ) (l : Layout) (f q k : List ℕ) (c : Classes) : Type 0 where
+  pub ready : Ready s l q c
+  pub sorted : Sorted (executionOf s) f
+  pub entered : Entered (executionOf s) k

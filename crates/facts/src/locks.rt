@@ -1,4 +1,7 @@
 // The events of locked instructions.
+ghost use mathlib.Core.Path.{_≡_};
+ghost use Prim.Native.Nat.{ℕ, _<_};
+ghost use Rattle.rows.specs.Members.{In, Is};
 ghost use Rattle.rows.specs.Table.{HasRows};
 ghost use Rattle.form.specs.Right.{Right};
 ghost use Rattle.record.specs.Says.{executionOf};
@@ -7,7 +10,24 @@ ghost use Rattle.facts.specs.Facts.{Blank, Sorted, Entered, Mated};
 use form::bytes::num1;
 use form::bytes::num2;
 use record::Part;
-use record::locks::indexed;
+use rows::Set;
+
+// The events of the set that have the instruction index.
+fn indexed(s: &[u8], own: Set, index: usize) -> Set
+    requires { ⌜ Right (now s) × ((e : ℕ) → In own e → e < executionOf (now s) .events .size) ⌝ }
+    ensures { λ r. ⌜ Is r (λ e. In own e × (executionOf (now (s .entry)) .events .item e .index ≡ index)) ⌝ }
+{
+    let mut from = own;
+    let mut r = rows::none();
+    while rows::any(from) {
+        let e = rows::first(from);
+        if num2(s, 6 + 12 * e) == index {
+            r = rows::union(r, rows::one(e));
+        }
+        from = rows::without(from, e);
+    }
+    r
+}
 
 // Row i gets the events of entry i, row 16 those of all entries.
 pub fn enter(s: &[u8], locks: Part, f: &[u64], k: &mut [u64])

@@ -1,5 +1,6 @@
 pub mod Branches
 pub mod Cases
+pub mod Flags
 pub mod Numbers
 pub mod Rights
 pub mod Runs

@@ -3,11 +3,12 @@ use Prim.Native.Nat.{ℕ, zero, suc, _+_, _*_, _/_, _<_, _≤_}
 use mathlib.Core.Path.{_≡_, refl, sym, ap, _∙_, subst}
 use mathlib.Core.Logic.{_⊎_, inl, inr}
 use mathlib.Core.List.{List}
+use mathlib.Core.Bool.{Bool, true, _&&_}
 use native.Mathlib.Omega.{arith}
 use native.Mathlib.Decide.{decLt}
 use native.Mathlib.Nat.{mul-comm, zero-mul, suc-mul, add-zero, mul-one, add-assoc}
 use native.Mathlib.Numerals.{add-one}
-use lib.ListN.{length}
+use lib.ListN.{length, getD}
 use borrow.Author.Tests.{le-leb}
 use Rattle.form.specs.Bytes.{num}
 use Rattle.form.specs.Steps.{upto}
@@ -15,6 +16,8 @@ use Rattle.form.specs.Form.{Section, width, due, fields, fieldsFrom, eve
 use Rattle.form.specs.Seen.{Leading, Seen}
 use Rattle.form.specs.declared.Counts.{Counts}
 use Rattle.form.specs.declared.Step.the-variants.{Next}
+use Rattle.form.proofs.Flags.{both}
+use Rattle.form.proofs.Numbers.{num-one}
 use Rattle.form.proofs.Rights.{fields-end, sizes-width, entry-well}
 use Rattle.form.proofs.Runs.{upto-next}
 use Rattle.form.proofs.Branches.{pair-right, one-right, row-pair, row-locked, row-one}
@@ -24,12 +27,24 @@ module _ (s : List ℕ) (n at m : ℕ) where
   pub leading-none : Leading s n at m 0
   leading-none = record { most = omega arith; low = λ j h. absurd (omega arith) }
 
-  pub leading-more : (i : ℕ) → Leading s n at m i → i < m → at + i + 1 ≤ length s → num 1 s (at + i) < n → Leading s n at m (i + 1)
-  leading-more i p l f h = record { most = omega arith; low = λ j g. go j g (decLt j i) }
+  -- the first i of them are at most w
+  pub record Topped (w i : ℕ) : Type 0 where
+    pub most : i ≤ m
+    pub small : w < 256
+    pub low : (j : ℕ) → j < i → num 1 s (at + j) ≤ w
+
+  pub topped-none : Topped 0 0
+  topped-none = record { most = omega arith; small = omega arith; low = λ j h. absurd (omega arith) }
+
+  pub topped-more : (w v i : ℕ) → Topped w i → i < m → v < 256 → w ≤ v → getD s (at + i) 0 ≤ v → Topped v (i + 1)
+  topped-more w v i p l b g h = record { most = omega arith; small = b; low = λ j d. go j d (decLt j i) }
     where
-      go : (j : ℕ) → j < i + 1 → Dec (j < i) → (at + j + 1 ≤ length s) × (num 1 s (at + j) < n)
-      go j g (yes d) = p .low j d
-      go j g (no d) = let e : j ≡ i = omega arith in rw e (f, h)
+      go : (j : ℕ) → j < i + 1 → Dec (j < i) → num 1 s (at + j) ≤ v
+      go j d (yes q) = let e = p .low j q in omega arith
+      go j d (no q) = let e : j ≡ i = omega arith in rw (e, num-one) h
+
+  pub topped-all : (w i : ℕ) → Topped w i → m ≤ i → at + m ≤ length s → w < n → Leading s n at m m
+  topped-all w i p l f h = record { most = omega arith; low = λ j d. (omega arith, (let e = p .low j (omega arith) in omega arith)) }
 
 module _ (c : Counts) (s : List ℕ) (k at m : ℕ) where
   pub seen-none : Seen c s k m at 0
@@ -41,6 +56,20 @@ module _ (c : Counts) (s : List ℕ) (k at m : ℕ) where
       go : (j : ℕ) → j < i + 1 → Dec (j < i) → entry c s k (at + j * width k) ≡ Next (at + (j + 1) * width k)
       go j g (yes d) = p .right j d
       go j g (no d) = let q : j ≡ i = omega arith in rw q e
+
+  -- the first i are right where the flag `a` says so
+  pub record Flagged (a : Bool) (i : ℕ) : Type 0 where
+    pub most : i ≤ m
+    pub right : a ≡ true → Seen c s k m at i
+
+  pub flagged-none : Flagged true 0
+  flagged-none = record { most = omega arith; right = λ h. seen-none }
+
+  pub flagged-more : (a b : Bool) (i : ℕ) → Flagged a i → i < m → (b ≡ true → Seen c s k m at i → Seen c s k m at (i + 1)) → Flagged (a && b) (i + 1)
+  flagged-more a b i p l f = record { most = omega arith; right = λ h. let (x, y) = both a b h in f y (p .right x) }
+
+  pub flagged-all : (a : Bool) (i : ℕ) → Flagged a i → m ≤ i → a ≡ true → Seen c s k m at m
+  flagged-all a i p l h = let g = p .most in let e : i ≡ m = omega arith in rw e at (p .right h)
 
   -- an entry that is there whole and whose fields are right
   pub right-entry : Section k → (a z : ℕ) → a + width k ≤ length s → fieldsFrom k (fields c s k a) a ≡ Next z → entry c s k a ≡ Next (a + width k)

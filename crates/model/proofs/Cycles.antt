@@ -1,5 +1,5 @@
 -- That HOL's word acyclic is that there is no cycle.
-use mathlib.Core.List.{List, [], _∷_}
+use mathlib.Core.List.{[], _∷_}
 use Rattle.order.specs.Relation.{Rel, Cyclic}
 use Rattle.model.specs.Hol.{acyclic}
 

@@ -13,7 +13,7 @@ use Rattle.order.proofs.Searches.{of-any}
 use Rattle.record.specs.Execution.{Execution}
 use Rattle.record.specs.Formed.{Formed}
 use Rattle.record.specs.Says.{executionOf}
-use Rattle.record.proofs.Passing.{Passed, passed}
+use Rattle.structure.proofs.Passing.{Passed, passed}
 use Rattle.model.specs.Model.{OrderFor}
 use Rattle.model.specs.Rules.{WrongStore, WrongLock, witnessRules, orderRules, checkRules}
 use Rattle.model.specs.Demand2.{Valid, Demand2, Causality, WellFormed}

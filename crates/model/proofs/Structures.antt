@@ -10,7 +10,7 @@ use Rattle.order.specs.Rule.{AllKept}
 use Rattle.order.proofs.Numbers.{dec-some}
 use Rattle.record.specs.Execution.{Instruction, Execution}
 use Rattle.record.specs.Formed.{Formed}
-use Rattle.record.specs.Structure.{Joining, Unordered, Eventless, Repeated, structureRules}
+use Rattle.structure.specs.Structure.{Joining, Unordered, Eventless, Repeated, structureRules}
 use Rattle.record.specs.Words.{SameInstruction, SameRegister, RegisterWrite, Belongs, Causes}
 use Rattle.record.specs.declared.Event.{Event}
 use Rattle.model.specs.Hol.{PER, wfes}

@@ -7,7 +7,7 @@ use Rattle.order.specs.Least.{Some}
 use Rattle.order.specs.Relation.{Cyclic}
 use Rattle.order.specs.Rule.{AllKept}
 use Rattle.record.specs.Execution.{Execution}
-use Rattle.record.specs.Examined.{examination}
+use Rattle.structure.specs.Examined.{examination}
 use Rattle.record.specs.Says.{executionOf}
 use Rattle.model.specs.Model.{OrderFor}
 use Rattle.model.specs.Rules.{witnessRules, checkRules}
@@ -19,21 +19,21 @@ abbrev pub Passes : List ℕ → Type 0
 Passes s = examination s [] 0 []
 
 -- the check of the record s gives the answer a, with the evidence e
-abbrev pub Checked : List ℕ → ℕ → List ℕ → Type 0
-Checked s a e = examination s (checkRules (executionOf s)) a e
+abbrev pub Answers : List ℕ → ℕ → List ℕ → Type 0
+Answers s a e = examination s (checkRules (executionOf s)) a e
 
 abbrev pub Valid : Execution → Type 1
 Valid z = Spelled z × valid-execution (structureOf z) (witnessOf z)
 
 -- a record that passes gets 0 exactly if what it says is valid
 abbrev pub Demand2 : Type 1
-Demand2 = (s : List ℕ) → Passes s → (a : ℕ) (e : List ℕ) → Checked s a e → (a ≡ 0) ↔ Valid (executionOf s)
+Demand2 = (s : List ℕ) → Passes s → (a : ℕ) (e : List ℕ) → Answers s a e → (a ≡ 0) ↔ Valid (executionOf s)
 
 -- a record whose witness is in order gets 24 exactly if, for some processor, its view order and happens-before together have a cycle
 abbrev pub Causality : Type 0
 Causality =
     (s : List ℕ) → Passes s → AllKept (witnessRules (executionOf s))
-    → (a : ℕ) (e : List ℕ) → Checked s a e
+    → (a : ℕ) (e : List ℕ) → Answers s a e
     → (a ≡ 24) ↔ Some (executionOf s .processors) (λ p. Cyclic (OrderFor (executionOf s) p))
 
 -- a record that passes says a well-formed event structure

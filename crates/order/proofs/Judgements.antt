@@ -1,12 +1,12 @@
 -- The judgement of a list of rules: two that it allows are one, it is 0 exactly if every rule is kept, and it is made rule after rule.
 use Prim.Native.Nat.{ℕ, _+_, _<_}
-use mathlib.Core.Path.{_≡_, refl, sym, ap, ap₂, _∙_}
+use mathlib.Core.Path.{_≡_, refl, sym, ap, ap₂, _∙_, subst}
 use mathlib.Core.Logic.{inl, inr}
 use mathlib.Core.List.{List, [], _∷_, _++_}
 use native.Mathlib.Omega.{arith}
 use lib.ListN.{length, drop}
 use Rattle.order.specs.Rule.{Rule, Shows, Kept, Judged, AllKept, Numbered}
-use Rattle.order.specs.Evidence.{Ruled, Given}
+use Rattle.order.specs.Evidence.{Written, Ruled, Given}
 use Rattle.order.proofs.Dictionaries.{firstly-unique}
 
 pub shows-unique : (q : Rule) (d e : List ℕ) → Shows q d → Shows q e → d ≡ e
@@ -78,3 +78,28 @@ given-unique J u before x y a b k l (d, p, (kd, xd)) (e, q, (le, ye)) =
     let (ab, de) = u a b d e p q in
     let kl : k ≡ l = kd ∙ ap length de ∙ sym le in
     (ab, kl, xd ∙ ap₂ _++_ de (ap (λ (z : ℕ). drop z before) kl) ∙ sym ye)
+
+-- no evidence: nothing is written
+written-none : (e b a : List ℕ) (k : ℕ) → e ≡ [] → Written e b a k → a ≡ b
+written-none [] b a k q (x, y) = y ∙ ap (λ (j : ℕ). drop j b) x
+written-none (n ∷ e) b a k q w = let l : length (n ∷ e) ≡ 0 = ap length q in absurd (omega arith)
+
+-- ---- rules after others
+module _ (qs rs : List Rule) (b a : List ℕ) where
+  -- one of the first is broken
+  pub given-stop : (n k : ℕ) → (n ≡ 0 → ⊥) → Given (Judged qs) b a n k → Given (Judged (qs ++ rs)) b a n k
+  given-stop n k g (e, j, w) = (e, judged-more qs rs n e g j, w)
+
+  -- all of the first are kept, and nothing is written
+  module _ (numbered : Numbered qs) (n k : ℕ) (z : n ≡ 0) (g : Given (Judged qs) b a n k) where
+    pub given-kept : AllKept qs
+    given-kept = judged-zero qs (g .0) numbered (subst (λ (x : ℕ). Judged qs x (g .0)) z (g .1))
+
+    pub given-same : a ≡ b
+    given-same = written-none (g .0) b a k (zero-judged qs n (g .0) given-kept (g .1) .1) (g .2)
+
+    pub given-on : (c : List ℕ) (m l : ℕ) → Given (Judged rs) a c m l → Given (Judged (qs ++ rs)) b c m l
+    given-on c m l h = go (subst (λ (x : List ℕ). Given (Judged rs) x c m l) given-same h)
+      where
+        go : Given (Judged rs) b c m l → Given (Judged (qs ++ rs)) b c m l
+        go (e, j, w) = (e, judged-then qs rs m e given-kept j, w)

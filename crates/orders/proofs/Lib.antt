@@ -1,4 +1,5 @@
 pub mod Earliest
+pub mod Headings
 pub mod Instructions
 pub mod Programs
 pub mod Sourcing

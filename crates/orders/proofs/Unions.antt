@@ -1,5 +1,5 @@
 -- Happens-before, order after order.
-use Prim.Native.Nat.{ℕ, _<_, _≤_}
+use Prim.Native.Nat.{ℕ, _<_}
 use mathlib.Core.Path.{_≡_, subst}
 use mathlib.Core.Logic.{_⊎_, inl, inr, ⊎-elim}
 use mathlib.Core.List.{List}
@@ -11,11 +11,12 @@ use Rattle.rows.specs.declared.Set.{Set}
 use Rattle.rows.proofs.Table.{adds-as, adds-then}
 use Rattle.record.specs.Execution.{Items, Execution}
 use Rattle.record.specs.Formed.{Formed}
-use Rattle.record.specs.Words.{Memory, SameAddress, SamePlace, Causes}
+use Rattle.record.specs.Words.{Memory, SameAddress, SamePlace}
 use Rattle.facts.specs.Facts.{Placed, Entered, Classed}
 use Rattle.facts.specs.declared.Classes.{Classes}
 use Rattle.model.specs.Model.{Before, Preserved, StoreOrder, LockedOrder, Source, HappensBefore}
-use Rattle.orders.specs.Groups.{BeforeIn}
+use Rattle.structure.specs.Held.{Held}
+use Rattle.orders.specs.Groups.{BeforeIn, Happens}
 
 module _ (z : Execution) (f : Formed z) where
   -- the part of section 6's order that is at one place and leads to memory is store order
@@ -60,23 +61,30 @@ module _ (z : Execution) (f : Formed z) where
     pub locks-adds : (l : Items ℕ) → l ≡ z .lockOrder → (t v : List ℕ) → Adds t v (BeforeIn (rel k) l) → Adds t v (LockedOrder z)
     locks-adds l q t v a = adds-as t v _ _ locks-says locks-has (subst (λ (x : Items ℕ). Adds t v (BeforeIn (rel k) x)) q a)
 
--- one order after the other
-pub happens-adds : (z : Execution) (t u v w x y : List ℕ) → Adds t u (Causes z) → Adds u v (Preserved z) → Adds v w (StoreOrder z) → Adds w x (LockedOrder z)
-    → Adds x y (Source z) → Adds t y (HappensBefore z)
+-- one order after the other, behind section 3
+pub happens : (z : Execution) (t v w x y : List ℕ) → Held z t → Adds t v (Preserved z) → Adds v w (StoreOrder z) → Adds w x (LockedOrder z)
+    → Adds x y (Source z) → Happens z y
 unfolding HappensBefore
-happens-adds z t u v w x y a b c d e =
-    adds-as t y _ _ there back (adds-then t x y _ _ (adds-then t w x _ _ (adds-then t v w _ _ (adds-then t u v _ _ a b) c) d) e)
+happens z t v w x y h b c d e = record {
+  rows = let l = all .same in let n = h .rows in omega arith;
+  pairs = λ m n. (
+    λ r. ⊎-elim (λ q. inl (h .pairs m n .0 q)) (λ q. there m n q) (all .pairs m n .0 r),
+    λ r. all .pairs m n .1 (⊎-elim (λ q. inl (h .pairs m n .1 q)) (λ q. inr (back m n q)) r),
+  );
+}
   where
-    there : (m n : ℕ) → (((Causes z m n ⊎ Preserved z m n) ⊎ StoreOrder z m n) ⊎ LockedOrder z m n) ⊎ Source z m n → HappensBefore z m n
-    there m n (inl (inl (inl (inl q)))) = inl q
-    there m n (inl (inl (inl (inr q)))) = inr (inl q)
+    all : Adds t y (λ m n. ((Preserved z m n ⊎ StoreOrder z m n) ⊎ LockedOrder z m n) ⊎ Source z m n)
+    all = adds-then t x y _ _ (adds-then t w x _ _ (adds-then t v w _ _ b c) d) e
+
+    there : (m n : ℕ) → ((Preserved z m n ⊎ StoreOrder z m n) ⊎ LockedOrder z m n) ⊎ Source z m n → HappensBefore z m n
+    there m n (inl (inl (inl q))) = inr (inl q)
     there m n (inl (inl (inr q))) = inr (inr (inl q))
     there m n (inl (inr q)) = inr (inr (inr (inl q)))
     there m n (inr q) = inr (inr (inr (inr q)))
 
-    back : (m n : ℕ) → HappensBefore z m n → (((Causes z m n ⊎ Preserved z m n) ⊎ StoreOrder z m n) ⊎ LockedOrder z m n) ⊎ Source z m n
-    back m n (inl q) = inl (inl (inl (inl q)))
-    back m n (inr (inl q)) = inl (inl (inl (inr q)))
-    back m n (inr (inr (inl q))) = inl (inl (inr q))
-    back m n (inr (inr (inr (inl q)))) = inl (inr q)
-    back m n (inr (inr (inr (inr q)))) = inr q
+    back : (m n : ℕ) → Preserved z m n ⊎ (StoreOrder z m n ⊎ (LockedOrder z m n ⊎ Source z m n))
+        → ((Preserved z m n ⊎ StoreOrder z m n) ⊎ LockedOrder z m n) ⊎ Source z m n
+    back m n (inl q) = inl (inl (inl q))
+    back m n (inr (inl q)) = inl (inl (inr q))
+    back m n (inr (inr (inl q))) = inl (inr q)
+    back m n (inr (inr (inr q))) = inr q

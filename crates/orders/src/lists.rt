@@ -1,9 +1,6 @@
 // Orders that a list gives: each earlier item is related to each later one. A list is walked from its end, with the set of what stands later.
-ghost use mathlib.Core.Path.{_≡_};
-ghost use Prim.Native.Nat.{ℕ};
 ghost use Rattle.rows.specs.Members.{In, Is};
 ghost use Rattle.rows.specs.Table.{HasRows, rel, Adds};
-ghost use Rattle.order.specs.Least.{Some};
 ghost use Rattle.form.specs.Right.{Right};
 ghost use Rattle.record.specs.Says.{executionOf};
 ghost use Rattle.record.specs.Laid.{Stands};

@@ -1,15 +1,14 @@
 // Preserved order, program by program and instruction by instruction.
-ghost use mathlib.Core.Path.{_≡_};
 ghost use mathlib.Core.Logic.{_⊎_};
 ghost use Prim.Native.Nat.{ℕ, _<_};
-ghost use Rattle.rows.specs.Members.{In, Is};
+ghost use Rattle.rows.specs.Members.{In, Is, Member};
 ghost use Rattle.rows.specs.Table.{HasRows, rel, Adds};
 ghost use Rattle.form.specs.Right.{Right};
 ghost use Rattle.record.specs.Execution.{Execution};
 ghost use Rattle.record.specs.Says.{executionOf};
 ghost use Rattle.facts.specs.Facts.{Sorted, Placed, Classed};
 ghost use Rattle.model.specs.Model.{KeepsOrder, Preserved};
-ghost use Rattle.orders.specs.Programs.{Program, Earliest, OneInstruction};
+ghost use Rattle.orders.specs.Programs.{Program, Earliest, Headed, OneInstruction};
 use facts::Classes;
 use record::events::event_of;
 use rows::Set;
@@ -80,8 +79,47 @@ fn put_instruction(t: &mut [u64], q: &[u64], c: Classes, here: Set, later: Set)
     put_steps(t, q, rows::minus(here, memory), later, held);
 }
 
-// Adds preserved order among the events of one processor.
-fn put_program(s: &[u8], q: &[u64], c: Classes, own: Set, t: &mut [u64])
+// The members of own with which an instruction begins, if the indexes do not fall as the numbers rise; else none.
+fn heads(s: &[u8], own: Set) -> Set
+    requires { ⌜ Right (now s) × ((e : ℕ) → In own e → e < executionOf (now s) .events .size) ⌝ }
+    ensures { λ r. ⌜ (Member r → Headed (executionOf (now (s .entry))) (In own) r) ⌝ }
+{
+    let mut from = own;
+    let mut next = 0;
+    let mut r = rows::none();
+    while rows::any(from) {
+        let e = rows::first(from);
+        let x = event_of(s, e);
+        let i = x.index;
+        if next <= i {
+            next = i + 1;
+            r = rows::union(r, rows::one(e));
+        } else if i + 1 < next {
+            return rows::none();
+        }
+        from = rows::without(from, e);
+    }
+    r
+}
+
+// Adds preserved order among the events of one processor, which stand in order: from each head to the next an instruction.
+fn put_ordered(q: &[u64], c: Classes, own: Set, heads: Set, t: &mut [u64])
+    requires { ⌜ HasRows (now t) 64 × HasRows (now q) 64 ⌝ }
+    ensures { λ r. ⌜ ((z : Execution) → Placed z (now (q .entry)) → Classed z c → Program z own → Headed z (In own) heads → Adds (now (t .entry)) (now (t .exit)) (λ a b. In own a × (In own b × Preserved z a b))) ⌝ }
+{
+    let mut rest = own;
+    let mut ahead = heads;
+    while rows::any(ahead) {
+        let h = rows::first(ahead);
+        ahead = rows::without(ahead, h);
+        let here = rows::common(rest, rows::full(rows::first(ahead)));
+        rest = rows::minus(rest, here);
+        put_instruction(t, q, c, here, rest);
+    }
+}
+
+// Adds preserved order among the events of one processor, which stand in any order.
+fn put_unordered(s: &[u8], q: &[u64], c: Classes, own: Set, t: &mut [u64])
     requires { ⌜ Right (now s) × Placed (executionOf (now s)) (now q) × Classed (executionOf (now s)) c × Program (executionOf (now s)) own × HasRows (now t) 64 ⌝ }
     ensures { λ r. ⌜ Adds (now (t .entry)) (now (t .exit)) (λ a b. In own a × (In own b × Preserved (executionOf (now (s .entry))) a b)) ⌝ }
 {
@@ -90,6 +128,19 @@ fn put_program(s: &[u8], q: &[u64], c: Classes, own: Set, t: &mut [u64])
         let here = earliest(s, rest);
         rest = rows::minus(rest, here);
         put_instruction(t, q, c, here, rest);
+    }
+}
+
+// Adds preserved order among the events of one processor.
+fn put_program(s: &[u8], q: &[u64], c: Classes, own: Set, t: &mut [u64])
+    requires { ⌜ Right (now s) × Placed (executionOf (now s)) (now q) × Classed (executionOf (now s)) c × Program (executionOf (now s)) own × HasRows (now t) 64 ⌝ }
+    ensures { λ r. ⌜ Adds (now (t .entry)) (now (t .exit)) (λ a b. In own a × (In own b × Preserved (executionOf (now (s .entry))) a b)) ⌝ }
+{
+    let begun = heads(s, own);
+    if rows::any(begun) {
+        put_ordered(q, c, own, begun, t);
+    } else {
+        put_unordered(s, q, c, own, t);
     }
 }
 

@@ -1,19 +1,16 @@
 // Happens-before: the union of its orders, without chaining.
-ghost use Rattle.rows.specs.Table.{HasRows, Adds};
-ghost use Rattle.form.specs.Right.{Right};
 ghost use Rattle.record.specs.Says.{executionOf};
-ghost use Rattle.record.specs.Laid.{Laid};
-ghost use Rattle.facts.specs.Facts.{Sorted, Placed, Entered, Classed};
-ghost use Rattle.model.specs.Model.{HappensBefore};
+ghost use Rattle.facts.specs.Facts.{Gathered};
+ghost use Rattle.structure.specs.Held.{Held};
+ghost use Rattle.orders.specs.Groups.{Happens};
 use crate::lists::put_order_of_groups;
 use crate::lists::put_part_of_order;
 use crate::lists::put_sources;
 use crate::preserved::put_preserved;
 use facts::Classes;
 use record::Layout;
-use record::causes::put_causes;
 
-// Adds happens-before.
+// Adds the other orders to a table that has section 3.
 pub fn put_happens_before(
     s: &[u8],
     l: Layout,
@@ -23,15 +20,12 @@ pub fn put_happens_before(
     c: Classes,
     t: &mut [u64],
 )
-    requires { ⌜ Right (now s) × Laid (now s) l × HasRows (now t) 64 ⌝ }
-    requires { ⌜ Sorted (executionOf (now s)) (now f) × Placed (executionOf (now s)) (now q) × Entered (executionOf (now s)) (now k) × Classed (executionOf (now s)) c ⌝ }
-    ensures { λ r. ⌜ Adds (now (t .entry)) (now (t .exit)) (HappensBefore (executionOf (now (s .entry)))) ⌝ }
+    requires { ⌜ Gathered (now s) l (now f) (now q) (now k) c × Held (executionOf (now s)) (now t) ⌝ }
+    ensures { λ r. ⌜ Happens (executionOf (now (s .entry))) (now (t .exit)) ⌝ }
 {
-    let causes = l.causes;
     let stores = l.stores;
     let lockorder = l.lockorder;
     let sources = l.sources;
-    put_causes(s, causes, t);
     put_preserved(s, f, q, c, t);
     put_part_of_order(s, stores, q, rows::union(c.loads, c.stores), t);
     put_order_of_groups(s, lockorder, k, t);

@@ -135,7 +135,7 @@ fn print_list(l: &[u16], k: usize) {
 // One line: what reading and the structure rules answer.
 fn print_examined(name: &[u8], number: usize, s: &[u8]) {
     let mut ev = [0u16; 65];
-    let v = record::examine::examine(s, &mut ev);
+    let v = structure::examine::examine(s, &mut ev);
     let k = v.count;
     io::write_all(STDOUT_FILENO, name);
     print_number(number as u64);

@@ -1,14 +1,7 @@
-pub mod Cases
-pub mod Examining
 pub mod Formings
-pub mod Judging
 pub mod Lays
 pub mod Lengths
 pub mod Lockings
-pub mod Pairs
-pub mod Partners
-pub mod Passing
 pub mod Places
 pub mod Reading
-pub mod Sorts
 pub mod Viewing

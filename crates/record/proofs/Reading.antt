@@ -1,6 +1,7 @@
 -- Entries read in place: where their fields stand, and that the place is within the record.
 use Prim.Native.Nat.{ℕ, _+_, _*_, _<_, _≤_}
 use mathlib.Core.Path.{_≡_, sym, ap, _∙_}
+use mathlib.Core.Logic.{_⊎_, inl, inr}
 use mathlib.Core.List.{List}
 use native.Mathlib.Omega.{arith}
 use native.Mathlib.Nat.{one-mul}
@@ -14,7 +15,7 @@ use Rattle.form.specs.Right.{Right}
 use Rattle.order.specs.Decides.{Decides}
 use Rattle.order.proofs.Tests.{by-or, by-and, by-eq, by-lt, by-le}
 use Rattle.record.specs.Execution.{Initial}
-use Rattle.record.specs.Words.{InitialFor}
+use Rattle.record.specs.Words.{Memory, Register, InitialFor}
 use Rattle.record.specs.declared.Event.{Event}
 use Rattle.record.specs.Laid.{Stands, Views}
 use Rattle.record.specs.Says.{executionOf}
@@ -60,15 +61,23 @@ module _ (s : List ℕ) (r : Right s) (k : ℕ) (a : 2 ≤ k) (b : k < 9) (p : P
   pub byte-of : num 1 s (p .at + i) ≡ num 1 s (entryAt s k i)
   byte-of = ap (num 1 s) (sym one-place ∙ entry-place s r k a b p q 1 e i)
 
--- whether an entry of section 5, whose fields were read, is for the event's place
-pub initial-tested : (x : Event) (i : Initial) (class place owner : ℕ) → class ≡ i .class → place ≡ i .place → owner ≡ i .processor
-    → Decides ((ltb (x .kind) 2 && (eqb class 0 && eqb (x .place) place)) || (leb 2 (x .kind) && (eqb class 1 && (eqb (x .processor) owner && eqb (x .place) place))))
-    (InitialFor x i)
-initial-tested x i class place owner ec ep eo =
-    rw (ec, ep, eo)
-    (by-or _ _
-    (by-and _ _ (by-lt _ _) (by-and _ _ (by-eq _ _) (by-eq _ _)))
-    (by-and _ _ (by-le _ _) (by-and _ _ (by-eq _ _) (by-and _ _ (by-eq _ _) (by-eq _ _)))))
+-- an entry of section 5 is of the event's class and owner
+abbrev pub Owned : Event → Initial → Type 0
+Owned x i = (Memory x × (i .class ≡ 0)) ⊎ (Register x × ((i .class ≡ 1) × (x .processor ≡ i .processor)))
+
+pub owned-tested : (x : Event) (i : Initial) (class owner : ℕ) → class ≡ i .class → owner ≡ i .processor
+    → Decides ((ltb (x .kind) 2 && eqb class 0) || (leb 2 (x .kind) && (eqb class 1 && eqb (x .processor) owner))) (Owned x i)
+owned-tested x i class owner ec eo =
+    rw (ec, eo) (by-or _ _ (by-and _ _ (by-lt _ _) (by-eq _ _)) (by-and _ _ (by-le _ _) (by-and _ _ (by-eq _ _) (by-eq _ _))))
+
+-- and then of the same place, it is for the event's place
+pub owned-for : (x : Event) (i : Initial) → x .place ≡ i .place → Owned x i → InitialFor x i
+owned-for x i e (inl q) = inl (q .0, (q .1, e))
+owned-for x i e (inr q) = inr (q .0, (q .1 .0, (q .1 .1, e)))
+
+pub for-owned : (x : Event) (i : Initial) → InitialFor x i → (x .place ≡ i .place) × Owned x i
+for-owned x i (inl q) = (q .1 .1, inl (q .0, q .1 .0))
+for-owned x i (inr q) = (q .1 .1 .1, inr (q .0, (q .1 .0, q .1 .1 .0)))
 
 -- a view's count and its events stand in the record
 module _ (s : List ℕ) (r : Right s) (p : ℕ) (h : p < num 1 s 1) where

@@ -1,10 +1,6 @@
-pub mod Examined
 pub mod Execution
 pub mod Formed
-pub mod Held
 pub mod Laid
 pub mod Says
-pub mod Sorted
-pub mod Structure
 pub mod View
 pub mod Words

@@ -1,4 +1,4 @@
-// Events, and the sets of them that share a field.
+// Events.
 ghost use mathlib.Core.Path.{_≡_};
 ghost use Prim.Native.Nat.{ℕ, _+_, _≤_, _<_};
 ghost use lib.ListN.{getD};
@@ -6,12 +6,10 @@ ghost use Rattle.order.specs.Decides.{Decides};
 ghost use Rattle.form.specs.Right.{Right};
 ghost use Rattle.record.specs.Says.{executionOf};
 ghost use Rattle.record.specs.Words.{SameInstruction};
-ghost use Rattle.record.specs.Sorted.{Sorted};
 use crate::Event;
 use form::bytes::num1;
 use form::bytes::num2;
 use form::bytes::num4;
-use rows::Set;
 
 // Event e.
 pub fn event_of(s: &[u8], e: usize) -> Event
@@ -33,19 +31,4 @@ pub fn same_instruction(x: Event, y: Event) -> bool
     ensures { λ r. ⌜ Decides r (SameInstruction x y) ⌝ }
 {
     (x.processor == y.processor) & (x.index == y.index)
-}
-
-// The events by a field of one byte: the processor, field 0, or the kind, field 1.
-pub fn sorted(s: &[u8], n: usize, field: usize) -> [Set; 4]
-    requires { ⌜ Right (now s) × (n ≡ executionOf (now s) .events .size) × (field < 2) ⌝ }
-    ensures { λ r. ⌜ Sorted (executionOf (now (s .entry))) field r ⌝ }
-{
-    let mut sets = [rows::none(); 4];
-    let mut e = 0;
-    while e < n {
-        let v = num1(s, 4 + 12 * e + field);
-        sets[v] = rows::union(sets[v], rows::one(e));
-        e += 1;
-    }
-    sets
 }

@@ -1,14 +1,9 @@
-// What a record says: its fields, read in place, the view question, and the structure rules.
+// What a record says: its fields, read in place, and the view question.
 // Promises: every function speaks of `executionOf`, the execution that the bytes spell. The crates above see no byte.
 
-pub mod causes;
 pub mod events;
-pub mod examine;
 pub mod lists;
-pub mod locks;
-pub mod registers;
 pub mod sections;
-pub mod structure;
 pub mod view;
 
 // An event's fields.

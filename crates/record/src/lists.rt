@@ -59,12 +59,13 @@ pub fn initial_for(s: &[u8], initials: Part, x: Event) -> usize
     let mut i = 0;
     while i < m {
         let at = from + 12 * i;
-        let class = num1(s, at + 1);
-        let place = num4(s, at + 4);
-        if ((x.kind < 2) & ((class == 0) & (x.place == place)))
-            | ((2 <= x.kind) & ((class == 1) & ((x.processor == num1(s, at)) & (x.place == place))))
-        {
-            return i;
+        if num4(s, at + 4) == x.place {
+            let class = num1(s, at + 1);
+            if ((x.kind < 2) & (class == 0))
+                | ((2 <= x.kind) & ((class == 1) & (x.processor == num1(s, at))))
+            {
+                return i;
+            }
         }
         i += 1;
     }

@@ -1,90 +1,176 @@
-use borrow.Author.Tests.{not-true, not-false}
-use Prim.Native.Nat.{_+_, _-_, _*_}
-use mathlib.Core.Path.{refl}
+use borrow.Author.Tests.{not-true}
+use Prim.Native.Nat.{_+_, _*_}
 use native.Mathlib.Omega.{arith}
 use borrow.Author.Needs.{needs}
+use lib.ListN.{set, length-set}
 use Rattle.rows.specs.Members.{value}
-use Rattle.cycles.proofs.Digs.{Digging, dig-begin, dig-low, dig-deep, dig-in, dig-back, dig-less, dig-found, dig-on, dig-done}
+use Rattle.rows.proofs.Members.{in-low, first-in}
+use Rattle.cycles.proofs.Digs.{Digging, free, free-most, free-less, fresh-begin, fresh-start, fresh-done, dig-less, dig-leaf, dig-found, dig-on, dig-end, dig-back, no-meet, no-next, next-in}
 use Rattle.cycles.proofs.left.Statement.{statement}
 use Rattle.cycles.proofs.left.Tie as tie
 
 abbrev Inv-loop : tie.InvT-loop
-Inv-loop t n live₀ path₀ deep₀ live path deep = Digging t n live path deep
+Inv-loop t n live₀ from₀ v₀ live from v = Digging t n live from v
 
 abbrev μ-loop : tie.MeasureT-loop
-μ-loop t n live₀ path₀ deep₀ live path deep = value live * 65 + (64 - deep)
+μ-loop t n live₀ from₀ v₀ live from v = value live * 65 + free from
 
 full-requires : tie.Need-full-requires Inv-loop μ-loop
 full-requires c κs = search needs
 
+returns : tie.Need-returns Inv-loop μ-loop
+returns c = let i = c .before .full .ensures in
+    fresh-done _ _ _ _ (fresh-begin (c .before .before .before .args .t .now) _ _ i) (λ m. let l = i .says (m .0) (m .1) in let e = c .if1 .taken in omega arith)
+
+array-write-from : tie.Need-array-write-from Inv-loop μ-loop
+array-write-from c = search needs
+
 loop-holds : tie.Need-loop-holds Inv-loop μ-loop
-loop-holds c = dig-begin _ _ _ _ refl (c .full .ensures)
+loop-holds c = let i = c .before .full .ensures in
+    fresh-start _ _ _ _ (fresh-begin _ _ _ i) 0 (i .has 0 (let e = c .if1 .left in omega arith))
+
+row-requires : tie.Need-row-requires Inv-loop μ-loop
+row-requires c κs = let p = c .before .before .before .before .pre in
+    let l = c .loop .inv .low _ (c .loop .inv .here) in
+    omega arith
+
+common-requires : tie.Need-common-requires Inv-loop μ-loop
+common-requires c κs = search needs
 
 any-requires : tie.Need-any-requires Inv-loop μ-loop
 any-requires c κs = search needs
 
-ahead-requires : tie.Need-ahead-requires Inv-loop μ-loop
-ahead-requires c κs = let l = c .before .before .before .loop in
-    let p = c .before .before .before .before .before .before .pre in
-    let u = l .inv .upto in
-    (omega arith, λ h. let d = dig-low _ _ _ _ _ (l .inv) h in omega arith)
+first-requires : tie.Need-first-requires Inv-loop μ-loop
+first-requires c κs = search needs
 
-any-requires-2 : tie.Need-any-requires-2 Inv-loop μ-loop
-any-requires-2 c κs = search needs
+row-requires-2 : tie.Need-row-requires-2 Inv-loop μ-loop
+row-requires-2 c κs = let f = c in
+    let l = f .before .before .before .before .before in
+    let h = next-in _ _ _ _ (f .before .before .before .before .row .ensures) _ (f .before .before .before .common .ensures) (f .before .before .any .ensures .holds (f .before .if2 .taken)) _ (f .first .ensures) in
+    let p = l .before .before .before .before .pre in
+    let m = l .loop .inv .low _ (h .0) in
+    omega arith
 
-sub-deep : tie.Need-sub-deep Inv-loop μ-loop
-sub-deep c = let l = c .before .before .before .before .before .before .loop in
-    dig-deep _ _ _ _ _ (l .inv) _ (c .before .before .ahead .ensures) (c .before .before .before .before .before .any .ensures .holds (c .before .before .before .before .if1 .taken)) (c .before .any2 .ensures .fails (not-true _ (c .if2 .taken)))
+meets-requires : tie.Need-meets-requires Inv-loop μ-loop
+meets-requires c κs = search needs
+
+without-requires : tie.Need-without-requires Inv-loop μ-loop
+without-requires c κs = let f = c .before .before .before in
+    let l = f .before .before .before .before .before in
+    let h = next-in _ _ _ _ (f .before .before .before .before .row .ensures) _ (f .before .before .before .common .ensures) (f .before .before .any .ensures .holds (f .before .if2 .taken)) _ (f .first .ensures) in
+    h .0
+
+loop-less : tie.Need-loop-less Inv-loop μ-loop
+loop-less c = let f = c .before .before .before .before in
+    let l = f .before .before .before .before .before in
+    let h = next-in _ _ _ _ (f .before .before .before .before .row .ensures) _ (f .before .before .before .common .ensures) (f .before .before .any .ensures .holds (f .before .if2 .taken)) _ (f .first .ensures) in
+    let d = dig-less _ _ _ _ _ (l .loop .inv) _ (h .0) (no-meet _ _ _ _ (c .before .before .before .row2 .ensures) (c .before .before .meets .ensures .fails (not-true _ (c .before .if3 .taken)))) _ (c .without .ensures) in
+    omega arith
+
+loop-again : tie.Need-loop-again Inv-loop μ-loop
+loop-again c = let f = c .before .before .before .before in
+    let l = f .before .before .before .before .before in
+    let h = next-in _ _ _ _ (f .before .before .before .before .row .ensures) _ (f .before .before .before .common .ensures) (f .before .before .any .ensures .holds (f .before .if2 .taken)) _ (f .first .ensures) in
+    dig-leaf _ _ _ _ _ (l .loop .inv) _ (h .0) (h .1) (no-meet _ _ _ _ (c .before .before .before .row2 .ensures) (c .before .before .meets .ensures .fails (not-true _ (c .before .if3 .taken)))) _ (c .without .ensures)
+
+array-read-if4 : tie.Need-array-read-if4 Inv-loop μ-loop
+array-read-if4 c = let f = c .before .before .before in
+    let l = f .before .before .before .before .before in
+    let h = next-in _ _ _ _ (f .before .before .before .before .row .ensures) _ (f .before .before .before .common .ensures) (f .before .before .any .ensures .holds (f .before .if2 .taken)) _ (f .first .ensures) in
+    in-low _ _ (h .0)
+
+cast-from : tie.Need-cast-from Inv-loop μ-loop
+cast-from c = let f = c .before .before .before .before in
+    let l = f .before .before .before .before .before in
+    let h = next-in _ _ _ _ (f .before .before .before .before .row .ensures) _ (f .before .before .before .common .ensures) (f .before .before .any .ensures .holds (f .before .if2 .taken)) _ (f .first .ensures) in
+    let m = in-low _ _ (l .loop .inv .here) in
+    omega arith
+
+array-write-from-2 : tie.Need-array-write-from-2 Inv-loop μ-loop
+array-write-from-2 c = let f = c .before .before .before .before in
+    let l = f .before .before .before .before .before in
+    let h = next-in _ _ _ _ (f .before .before .before .before .row .ensures) _ (f .before .before .before .common .ensures) (f .before .before .any .ensures .holds (f .before .if2 .taken)) _ (f .first .ensures) in
+    in-low _ _ (h .0)
+
+loop-less-2 : tie.Need-loop-less-2 Inv-loop μ-loop
+loop-less-2 c = let f = c .before .before .before .before in
+    let l = f .before .before .before .before .before in
+    let h = next-in _ _ _ _ (f .before .before .before .before .row .ensures) _ (f .before .before .before .common .ensures) (f .before .before .any .ensures .holds (f .before .if2 .taken)) _ (f .first .ensures) in
+    let m = in-low _ _ (l .loop .inv .here) in
+    let k = in-low _ _ (h .0) in
+    let s = l .loop .inv .same in
+    let d = free-less (l .loop .from) _ (l .loop .v) (omega arith) (c .if4 .taken) (omega arith) in
+    omega arith
+
+loop-again-2 : tie.Need-loop-again-2 Inv-loop μ-loop
+loop-again-2 c = let f = c .before .before .before .before in
+    let l = f .before .before .before .before .before in
+    let h = next-in _ _ _ _ (f .before .before .before .before .row .ensures) _ (f .before .before .before .common .ensures) (f .before .before .any .ensures .holds (f .before .if2 .taken)) _ (f .first .ensures) in
+    dig-on _ _ _ _ _ (l .loop .inv) _ (h .0) (h .1) (c .if4 .taken)
+
+returns-2 : tie.Need-returns-2 Inv-loop μ-loop
+returns-2 c = let f = c .before .before .before .before in
+    let l = f .before .before .before .before .before in
+    let h = next-in _ _ _ _ (f .before .before .before .before .row .ensures) _ (f .before .before .before .common .ensures) (f .before .before .any .ensures .holds (f .before .if2 .taken)) _ (f .first .ensures) in
+    dig-found _ _ _ _ _ (l .loop .inv) _ (h .0) (h .1) (c .if4 .left)
+
+without-requires-2 : tie.Need-without-requires-2 Inv-loop μ-loop
+without-requires-2 c κs = c .before .before .before .before .loop .inv .here
 
 array-read-wide : tie.Need-array-read-wide Inv-loop μ-loop
-array-read-wide c = let u = c .before .before .before .before .before .before .loop .inv .upto in search needs
+array-read-wide c = in-low _ _ (c .before .before .before .before .before .loop .inv .here)
 
 wide-requires : tie.Need-wide-requires Inv-loop μ-loop
 wide-requires c κs = search needs
 
-without-requires : tie.Need-without-requires Inv-loop μ-loop
-without-requires c κs = let b = c .before in
-    let l = b .before .before .before .before .before .before .loop in
-    rw (c .wide .ensures) (dig-in _ _ _ _ _ (l .inv) _ (b .before .before .ahead .ensures) (b .before .before .before .before .before .any .ensures .holds (b .before .before .before .before .if1 .taken)) (b .before .any2 .ensures .fails (not-true _ (b .if2 .taken))))
+first-requires-2 : tie.Need-first-requires-2 Inv-loop μ-loop
+first-requires-2 c κs = search needs
 
-loop-less : tie.Need-loop-less Inv-loop μ-loop
-loop-less c = let b = c .before .before in
-    let l = b .before .before .before .before .before .before .loop in
-    let u = l .inv .upto in
-    let v = dig-less _ _ _ _ _ (l .inv) _ (b .before .before .ahead .ensures) (b .before .before .before .before .before .any .ensures .holds (b .before .before .before .before .if1 .taken)) (b .before .any2 .ensures .fails (not-true _ (b .if2 .taken))) _ (rw (c .before .wide .ensures) at (c .without .ensures)) in
+returns-3 : tie.Need-returns-3 Inv-loop μ-loop
+returns-3 c = let u = c .before .before .before .before in
+    let l = u .before .before .before .before .before in
+    let g = no-next _ _ _ _ (u .before .before .before .before .row .ensures) _ (u .before .before .before .common .ensures) (u .before .before .any .ensures .fails (u .before .if2 .left)) in
+    let e = (dig-end _ _ _ _ _ (l .loop .inv) g _ (u .without2 .ensures) (rw (c .before .before .before .wide .ensures) at (c .before .before .if5 .taken))) in
+    fresh-done _ _ _ _ e (λ m. let k = e .low _ (first-in _ m _ (c .before .first2 .ensures)) in let z = c .if6 .taken in omega arith)
+
+cast-from-2 : tie.Need-cast-from-2 Inv-loop μ-loop
+cast-from-2 c = let p = c .before .before .before .before .before .before .before .before .before .before .before .before .before .pre in
+    let z = c .if6 .left in
     omega arith
 
-loop-again : tie.Need-loop-again Inv-loop μ-loop
-loop-again c = let b = c .before .before in
-    let l = b .before .before .before .before .before .before .loop in
-    dig-back _ _ _ _ _ (l .inv) _ (b .before .before .ahead .ensures) (b .before .before .before .before .before .any .ensures .holds (b .before .before .before .before .if1 .taken)) (b .before .any2 .ensures .fails (not-true _ (b .if2 .taken))) _ (rw (c .before .wide .ensures) at (c .without .ensures))
+array-write-from-3 : tie.Need-array-write-from-3 Inv-loop μ-loop
+array-write-from-3 c = let p = c .before .before .before .before .before .before .before .before .before .before .before .before .before .pre in
+    let z = c .if6 .left in
+    omega arith
 
-returns : tie.Need-returns Inv-loop μ-loop
-returns c = let b = c .before .before in
-    dig-found _ _ _ _ _ (b .before .before .before .before .before .loop .inv) _ (b .before .ahead .ensures) (b .any2 .ensures .holds (not-false _ (c .before .if2 .left))) (c .if3 .taken)
+loop-less-3 : tie.Need-loop-less-3 Inv-loop μ-loop
+loop-less-3 c = let u = c .before .before .before .before in
+    let l = u .before .before .before .before .before in
+    let g = no-next _ _ _ _ (u .before .before .before .before .row .ensures) _ (u .before .before .before .common .ensures) (u .before .before .any .ensures .fails (u .before .if2 .left)) in
+    let d = dig-less _ _ _ _ _ (l .loop .inv) _ (l .loop .inv .here) g _ (u .without2 .ensures) in
+    let s = l .loop .inv .same in
+    omega (arith, free-most (set (l .loop .from) (c .before .first2 .result) (c .before .first2 .result)), length-set (l .loop .from) (c .before .first2 .result) (c .before .first2 .result))
 
-first-requires : tie.Need-first-requires Inv-loop μ-loop
-first-requires c κs = search needs
+loop-again-3 : tie.Need-loop-again-3 Inv-loop μ-loop
+loop-again-3 c = let u = c .before .before .before .before in
+    let l = u .before .before .before .before .before in
+    let g = no-next _ _ _ _ (u .before .before .before .before .row .ensures) _ (u .before .before .before .common .ensures) (u .before .before .any .ensures .fails (u .before .if2 .left)) in
+    let p = l .before .before .before .before .pre in
+    let z = c .if6 .left in
+    fresh-start _ _ _ _ (dig-end _ _ _ _ _ (l .loop .inv) g _ (u .without2 .ensures) (rw (c .before .before .before .wide .ensures) at (c .before .before .if5 .taken))) _ (c .before .first2 .ensures .hit (omega arith))
 
-cast-path : tie.Need-cast-path Inv-loop μ-loop
-cast-path c = omega (arith, c .first .ensures .most)
+loop-less-4 : tie.Need-loop-less-4 Inv-loop μ-loop
+loop-less-4 c = let u = c .before .before in
+    let l = u .before .before .before .before .before in
+    let g = no-next _ _ _ _ (u .before .before .before .before .row .ensures) _ (u .before .before .before .common .ensures) (u .before .before .any .ensures .fails (u .before .if2 .left)) in
+    let d = dig-less _ _ _ _ _ (l .loop .inv) _ (l .loop .inv .here) g _ (u .without2 .ensures) in
+    omega arith
 
-array-write-path : tie.Need-array-write-path Inv-loop μ-loop
-array-write-path c = let u = c .before .before .before .before .before .before .before .before .loop .inv .upto in search needs
-
-add-deep : tie.Need-add-deep Inv-loop μ-loop
-add-deep c = let u = c .before .before .before .before .before .before .before .before .loop .inv .upto in search needs
-
-loop-less-2 : tie.Need-loop-less-2 Inv-loop μ-loop
-loop-less-2 c = let u = c .before .before .before .before .before .before .before .before .loop .inv .upto in omega arith
-
-loop-again-2 : tie.Need-loop-again-2 Inv-loop μ-loop
-loop-again-2 c = let b = c .before .before .before in
-    let p = c .before .before .before .before .before .before .before .before .before .before .before .pre in
-    dig-on _ _ _ _ _ (b .before .before .before .before .before .loop .inv) _ (b .before .ahead .ensures) (b .any2 .ensures .holds (not-false _ (c .before .before .if2 .left))) (c .before .if3 .left) (p .0) _ (c .first .ensures)
-
-returns-2 : tie.Need-returns-2 Inv-loop μ-loop
-returns-2 c = dig-done _ _ _ _ _ (c .before .before .loop .inv) (c .before .any .ensures .fails (c .if1 .left))
+loop-again-4 : tie.Need-loop-again-4 Inv-loop μ-loop
+loop-again-4 c = let u = c .before .before in
+    let l = u .before .before .before .before .before in
+    let g = no-next _ _ _ _ (u .before .before .before .before .row .ensures) _ (u .before .before .before .common .ensures) (u .before .before .any .ensures .fails (u .before .if2 .left)) in
+    rw (c .before .wide .ensures) (dig-back _ _ _ _ _ (l .loop .inv) g _ (u .without2 .ensures) (rw (c .before .wide .ensures) at (c .if5 .left)))
 
 pub left-spec : {M : Type 1} → statement M
 left-spec =
@@ -93,21 +179,32 @@ left-spec =
     Inv-loop
     μ-loop
     full-requires
+    returns
+    array-write-from
     loop-holds
+    row-requires
+    common-requires
     any-requires
-    ahead-requires
-    any-requires-2
-    sub-deep
-    array-read-wide
-    wide-requires
+    first-requires
+    row-requires-2
+    meets-requires
     without-requires
     loop-less
     loop-again
-    returns
-    first-requires
-    cast-path
-    array-write-path
-    add-deep
+    array-read-if4
+    cast-from
+    array-write-from-2
     loop-less-2
     loop-again-2
-    returns-2)
+    returns-2
+    without-requires-2
+    array-read-wide
+    wide-requires
+    first-requires-2
+    returns-3
+    cast-from-2
+    array-write-from-3
+    loop-less-3
+    loop-again-3
+    loop-less-4
+    loop-again-4)

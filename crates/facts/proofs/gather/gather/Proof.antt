@@ -29,12 +29,14 @@ returns c = let e = c .before .before .before .before .before in
     let f = q .before .before .before .before .before in
     let p = f .before .before .before .before .before .before .before .pre .0 in
     record {
-      right = p .0;
-      laid = p .1;
+      ready = record {
+        right = p .0;
+        laid = p .1;
+        placed = q .place .ensures;
+        classed = c .classify .ensures _ (f .sort .ensures) (e .enter .ensures);
+      };
       sorted = f .sort .ensures;
-      placed = q .place .ensures;
       entered = e .enter .ensures;
-      classed = c .classify .ensures _ (f .sort .ensures) (e .enter .ensures);
     }
 
 pub gather-spec : {M : Type 1} → statement M

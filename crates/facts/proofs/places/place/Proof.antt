@@ -1,85 +1,37 @@
 use borrow.Author.Needs.{needs}
 use native.Mathlib.Omega.{arith}
-use Rattle.rows.specs.Members.{value}
-use Rattle.rows.proofs.Members.{first-in}
-use Rattle.record.specs.Says.{executionOf}
-use Rattle.record.proofs.Formings.{formed}
-use Rattle.facts.proofs.Placing.{Placing, place-begin, place-more, place-less, place-done}
+use Rattle.rows.proofs.Table.{zeros-rel}
 use Rattle.facts.proofs.places.place.Statement.{statement}
 use Rattle.facts.proofs.places.place.Tie as tie
 
-abbrev Inv-loop : tie.InvT-loop
-Inv-loop s n f q₀ left₀ q left = Placing (executionOf s) q₀ q left
+slice-aggregate-put-slots : tie.Need-slice-aggregate-put-slots
+slice-aggregate-put-slots c = search needs
 
-abbrev μ-loop : tie.MeasureT-loop
-μ-loop s n f q₀ left₀ q left = value left
+put-slots-requires : tie.Need-put-slots-requires
+put-slots-requires c κs = let p = c .before .before .before .before .pre in
+    (p .0, p .1, omega arith, zeros-rel 64)
 
-full-requires : tie.Need-full-requires Inv-loop μ-loop
-full-requires c κs = let p = c .before .before .before .pre in
-    let q = p .1 in
-    let h = formed _ (p .0) .events .within in
-    omega arith
+slice-aggregate-put-places : tie.Need-slice-aggregate-put-places
+slice-aggregate-put-places c = search needs
 
-loop-holds : tie.Need-loop-holds Inv-loop μ-loop
-loop-holds c = place-begin _ _ _ (c .before .before .before .before .pre .1) _ (c .full .ensures)
+put-places-requires : tie.Need-put-places-requires
+put-places-requires c κs = let s = c .before .before .before in
+    let p = s .before .before .before .before .before .pre in
+    (p .0, p .1, p .2, s .put-slots .ensures, p .3, p .4)
 
-any-requires : tie.Need-any-requires Inv-loop μ-loop
-any-requires c κs = search needs
+same-length : tie.Need-same-length
+same-length c = search needs
 
-first-requires : tie.Need-first-requires Inv-loop μ-loop
-first-requires c κs = search needs
-
-alike-requires : tie.Need-alike-requires Inv-loop μ-loop
-alike-requires c κs = let b = c in
-    let m = first-in _ (b .before .before .any .ensures .holds (b .before .if1 .taken)) _ (b .first .ensures) in
-    let l = c .before .before .before in
-    let p = l .before .before .before .before .before .pre in
-    (p .0, p .2, l .loop .inv .low _ m)
-
-spread-requires : tie.Need-spread-requires Inv-loop μ-loop
-spread-requires c κs = let l = c .before .before .before .before .before in
-    let r = l .before .before .before .before .before .pre .3 in
-    let z = l .loop .inv .adds .same in
-    omega arith
-
-minus-requires : tie.Need-minus-requires Inv-loop μ-loop
-minus-requires c κs = search needs
-
-loop-less : tie.Need-loop-less Inv-loop μ-loop
-loop-less c = let k = c .before .before .before .before .before in
-    let b = k .before in
-    let m = first-in _ (b .before .before .any .ensures .holds (b .before .if1 .taken)) _ (b .first .ensures) in
-    place-less _ _ _ _ (b .before .before .before .loop .inv) _ m _ _ (k .alike .ensures) (c .minus .ensures)
-
-loop-again : tie.Need-loop-again Inv-loop μ-loop
-loop-again c = let d = c .before .before .before in
-    let k = d .before .before in
-    let b = k .before in
-    let m = first-in _ (b .before .before .any .ensures .holds (b .before .if1 .taken)) _ (b .first .ensures) in
-    place-more _ _ _ _ (b .before .before .before .loop .inv) _ m _ _ (k .alike .ensures) (c .minus .ensures) _ (d .spread .ensures)
-
-same-length : tie.Need-same-length Inv-loop μ-loop
-same-length c = c .before .before .loop .inv .adds .same
-
-returns : tie.Need-returns Inv-loop μ-loop
-returns c = let l = c .before .before in
-    let p = l .before .before .before .before .before .pre in
-    place-done _ _ _ _ (l .loop .inv) (c .before .any .ensures .fails (c .if1 .left)) (p .3) (p .4)
+returns : tie.Need-returns
+returns c = c .before .before .put-places .ensures
 
 pub place-spec : {M : Type 1} → statement M
 place-spec =
     tie.close
     (tie.spec
-    Inv-loop
-    μ-loop
-    full-requires
-    loop-holds
-    any-requires
-    first-requires
-    alike-requires
-    spread-requires
-    minus-requires
-    loop-less
-    loop-again
+    slice-aggregate-put-slots
+    put-slots-requires
+    slice-aggregate-put-places
+    put-places-requires
     same-length
     returns)

@@ -1,5 +1,6 @@
 use Prim.Native.Nat.{_-_, _≤_}
-use mathlib.Core.Path.{refl, _∙_}
+use mathlib.Core.Path.{refl, sym, _∙_}
+use mathlib.Core.Logic.{⊎-elim}
 use native.Mathlib.Omega.{arith}
 use Rattle.order.specs.Least.{None}
 use Rattle.order.proofs.Searches.{none-yet, none-next, hit-at, hit-not}
@@ -7,7 +8,7 @@ use Rattle.form.specs.Form.{width}
 use Rattle.record.specs.Says.{executionOf}
 use Rattle.record.specs.Words.{InitialFor}
 use Rattle.record.proofs.Lengths.{small}
-use Rattle.record.proofs.Reading.{field-fits, entry-fit, field-small, entry-small, index-small, field-of, first-of, initial-tested}
+use Rattle.record.proofs.Reading.{field-fits, entry-fit, field-small, entry-small, index-small, field-of, first-of, Owned, owned-tested, owned-for, for-owned}
 use Rattle.record.proofs.lists.initial_for.Statement.{statement}
 use Rattle.record.proofs.lists.initial_for.Tie as tie
 
@@ -28,36 +29,41 @@ add-at : tie.Need-add-at Inv-loop μ-loop
 unfolding width
 add-at c = small _ (entry-small _ (c .before .before .before .pre .0) 5 (omega arith) (omega arith) _ (c .before .before .before .pre .1) 12 refl (c .before .loop .i) (c .loop-test .taken))
 
-add-num1 : tie.Need-add-num1 Inv-loop μ-loop
-unfolding width
-add-num1 c = small _ (field-small _ (c .before .before .before .pre .0) 5 (omega arith) (omega arith) _ (c .before .before .before .pre .1) 12 refl (c .before .loop .i) (c .loop-test .taken) 1 (omega arith))
-
-num1-requires : tie.Need-num1-requires Inv-loop μ-loop
-unfolding width
-num1-requires c κs = field-fits _ (c .before .before .before .pre .0) 5 (omega arith) (omega arith) _ (c .before .before .before .pre .1) 12 refl (c .before .loop .i) (c .loop-test .taken) 1 1 (omega arith)
-
 add-num4 : tie.Need-add-num4 Inv-loop μ-loop
 unfolding width
-add-num4 c = small _ (field-small _ (c .before .before .before .before .pre .0) 5 (omega arith) (omega arith) _ (c .before .before .before .before .pre .1) 12 refl (c .before .before .loop .i) (c .before .loop-test .taken) 4 (omega arith))
+add-num4 c = small _ (field-small _ (c .before .before .before .pre .0) 5 (omega arith) (omega arith) _ (c .before .before .before .pre .1) 12 refl (c .before .loop .i) (c .loop-test .taken) 4 (omega arith))
 
 num4-requires : tie.Need-num4-requires Inv-loop μ-loop
 unfolding width
-num4-requires c κs = field-fits _ (c .before .before .before .before .pre .0) 5 (omega arith) (omega arith) _ (c .before .before .before .before .pre .1) 12 refl (c .before .before .loop .i) (c .before .loop-test .taken) 4 4 (omega arith)
+num4-requires c κs = field-fits _ (c .before .before .before .pre .0) 5 (omega arith) (omega arith) _ (c .before .before .before .pre .1) 12 refl (c .before .loop .i) (c .loop-test .taken) 4 4 (omega arith)
+
+add-num1 : tie.Need-add-num1 Inv-loop μ-loop
+unfolding width
+add-num1 c = let l = c .before .before .before in
+    small _ (field-small _ (l .before .before .before .pre .0) 5 (omega arith) (omega arith) _ (l .before .before .before .pre .1) 12 refl (l .before .loop .i) (l .loop-test .taken) 1 (omega arith))
+
+num1-requires : tie.Need-num1-requires Inv-loop μ-loop
+unfolding width
+num1-requires c κs = let l = c .before .before .before in
+    field-fits _ (l .before .before .before .pre .0) 5 (omega arith) (omega arith) _ (l .before .before .before .pre .1) 12 refl (l .before .loop .i) (l .loop-test .taken) 1 1 (omega arith)
 
 num1-requires-2 : tie.Need-num1-requires-2 Inv-loop μ-loop
 unfolding width
-num1-requires-2 c κs = entry-fit _ (c .before .before .before .before .before .before .before .before .pre .0) 5 (omega arith) (omega arith) _ (c .before .before .before .before .before .before .before .before .pre .1) 12 refl (c .before .before .before .before .before .before .loop .i) (c .before .before .before .before .before .loop-test .taken) 1 (omega arith)
+num1-requires-2 c κs = let l = c .before .before .before .before .before .before in
+    entry-fit _ (l .before .before .before .pre .0) 5 (omega arith) (omega arith) _ (l .before .before .before .pre .1) 12 refl (l .before .loop .i) (l .loop-test .taken) 1 (omega arith)
 
 returns : tie.Need-returns Inv-loop μ-loop
 unfolding width
-returns c = let n = c .before .before .before in
-    let v = n .before .before .before .before in
-    let l = v .before .before in
-    let d = initial-tested (l .before .before .before .args .x) (executionOf (l .before .before .before .args .s .now) .initials .item (l .before .loop .i)) _ _ _
-    (v .before .num1 .ensures .0 ∙ field-of _ (l .before .before .before .pre .0) 5 (omega arith) (omega arith) _ (l .before .before .before .pre .1) 12 refl (l .before .loop .i) (l .loop-test .taken) 1 1)
-    (v .num4 .ensures .0 ∙ field-of _ (l .before .before .before .pre .0) 5 (omega arith) (omega arith) _ (l .before .before .before .pre .1) 12 refl (l .before .loop .i) (l .loop-test .taken) 4 4)
-    (n .num12 .ensures .0 ∙ first-of _ (l .before .before .before .pre .0) 5 (omega arith) (omega arith) _ (l .before .before .before .pre .1) 12 refl (l .before .loop .i) (l .loop-test .taken) 1) in
-    hit-at _ _ _ (l .before .loop .inv .1) (l .loop-test .taken) (d .holds (c .if1 .taken))
+returns c = let o = c .before .before in
+    let n = o .before .before .before in
+    let t = n .before in
+    let v = t .before .before in
+    let l = v .before in
+    let x = l .before .before .before .args .x in
+    let i = executionOf (l .before .before .before .args .s .now) .initials .item (l .before .loop .i) in
+    let d = owned-tested x i _ _ (n .num1 .ensures .0 ∙ field-of _ (l .before .before .before .pre .0) 5 (omega arith) (omega arith) _ (l .before .before .before .pre .1) 12 refl (l .before .loop .i) (l .loop-test .taken) 1 1) (o .num12 .ensures .0 ∙ first-of _ (l .before .before .before .pre .0) 5 (omega arith) (omega arith) _ (l .before .before .before .pre .1) 12 refl (l .before .loop .i) (l .loop-test .taken) 1) in
+    let e = v .num4 .ensures .0 ∙ field-of _ (l .before .before .before .pre .0) 5 (omega arith) (omega arith) _ (l .before .before .before .pre .1) 12 refl (l .before .loop .i) (l .loop-test .taken) 4 4 in
+    hit-at _ _ _ (l .before .loop .inv .1) (l .loop-test .taken) (owned-for x i (sym (t .if1 .taken) ∙ e) (d .holds (c .if2 .taken)))
 
 add-i : tie.Need-add-i Inv-loop μ-loop
 add-i c = omega arith
@@ -67,14 +73,18 @@ loop-less c = omega arith
 
 loop-again : tie.Need-loop-again Inv-loop μ-loop
 unfolding width
-loop-again c = let n = c .before .before .before in
-    let v = n .before .before .before .before in
-    let l = v .before .before in
-    let d = initial-tested (l .before .before .before .args .x) (executionOf (l .before .before .before .args .s .now) .initials .item (l .before .loop .i)) _ _ _
-    (v .before .num1 .ensures .0 ∙ field-of _ (l .before .before .before .pre .0) 5 (omega arith) (omega arith) _ (l .before .before .before .pre .1) 12 refl (l .before .loop .i) (l .loop-test .taken) 1 1)
-    (v .num4 .ensures .0 ∙ field-of _ (l .before .before .before .pre .0) 5 (omega arith) (omega arith) _ (l .before .before .before .pre .1) 12 refl (l .before .loop .i) (l .loop-test .taken) 4 4)
-    (n .num12 .ensures .0 ∙ first-of _ (l .before .before .before .pre .0) 5 (omega arith) (omega arith) _ (l .before .before .before .pre .1) 12 refl (l .before .loop .i) (l .loop-test .taken) 1) in
-    (omega arith, none-next _ _ (l .before .loop .inv .1) (d .fails (c .if1 .left)))
+loop-again c = let v = c .before .before in
+    let l = v .before in
+    let x = l .before .before .before .args .x in
+    let i = executionOf (l .before .before .before .args .s .now) .initials .item (l .before .loop .i) in
+    let e = v .num4 .ensures .0 ∙ field-of _ (l .before .before .before .pre .0) 5 (omega arith) (omega arith) _ (l .before .before .before .pre .1) 12 refl (l .before .loop .i) (l .loop-test .taken) 4 4 in (
+      omega arith,
+      none-next _ _ (l .before .loop .inv .1)
+          (⊎-elim
+          (λ w q. owned-tested x i _ _ (w .1 .ensures .0 ∙ field-of _ (l .before .before .before .pre .0) 5 (omega arith) (omega arith) _ (l .before .before .before .pre .1) 12 refl (l .before .loop .i) (l .loop-test .taken) 1 1) (w .4 .ensures .0 ∙ first-of _ (l .before .before .before .pre .0) 5 (omega arith) (omega arith) _ (l .before .before .before .pre .1) 12 refl (l .before .loop .i) (l .loop-test .taken) 1) .fails (w .6 .left) (for-owned x i q .1))
+          (λ w q. w .left (e ∙ sym (for-owned x i q .0)))
+          (c .if1 .came)),
+    )
 
 returns-2 : tie.Need-returns-2 Inv-loop μ-loop
 returns-2 c = hit-not _ _ _ (c .before .loop .inv .1) (c .loop-test .left)
@@ -88,10 +98,10 @@ initial-for-spec =
     loop-holds
     mul-at
     add-at
-    add-num1
-    num1-requires
     add-num4
     num4-requires
+    add-num1
+    num1-requires
     num1-requires-2
     returns
     add-i

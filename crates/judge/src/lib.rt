@@ -1,0 +1,25 @@
+// The judge: rules 20 to 27, the check and the order table.
+// Promises: for every byte string and every lent buffer the answer, its evidence, and every entry of the buffer.
+use facts::Classes;
+use record::Layout;
+use rows::Set;
+
+pub mod arranged;
+pub mod check;
+pub mod closer;
+pub mod table;
+pub mod views;
+pub mod witness;
+
+// What the rules about the orders know of a record besides its tables: where its sections stand, its events by class, and those with a source.
+pub struct Known {
+    pub layout: Layout,
+    pub classes: Classes,
+    pub sourced: Set,
+}
+
+// A look at a view: how many entries the evidence against rule 24 has and, where there are none, whether the view is calm: it keeps the rules after 24.
+pub struct Look {
+    pub count: usize,
+    pub calm: bool,
+}

@@ -1,0 +1,124 @@
+//! The slot cases of the check and of the order table: `check_cases records`
+//! writes the records, each after its length in two bytes, and `check_cases
+//! expected` what is to be said of them.
+
+use plain::sample::{event, s1, s2, Record, LOAD, STORE};
+use plain::{check, order_table, EVIDENCE_ENTRIES};
+use std::io::Write;
+
+/// One processor stores `n` times, each time by an instruction of its own, the
+/// first `g` of which are locked.
+fn stores(n: usize, g: usize) -> Record {
+    let numbers: Vec<u8> = (0..n as u8).collect();
+    Record {
+        processors: 1,
+        events: (0..n).map(|i| event(0, STORE, i as u16, 4 * i as u32, 1)).collect(),
+        locked: (0..g).map(|i| (0, i as u16)).collect(),
+        store_order: numbers.clone(),
+        locked_order: (0..g as u8).collect(),
+        views: vec![numbers],
+        ..Record::default()
+    }
+}
+
+/// Two stores and a load of one address; the load takes the first store.
+fn overwritten() -> Record {
+    Record {
+        processors: 1,
+        events: vec![
+            event(0, STORE, 0, 100, 1),
+            event(0, STORE, 1, 100, 1),
+            event(0, LOAD, 2, 100, 1),
+        ],
+        store_order: vec![0, 1],
+        reads_from: vec![(0, 2)],
+        views: vec![vec![0, 1, 2]],
+        ..Record::default()
+    }
+}
+
+/// A locked instruction of two stores, and a store by another processor.
+fn torn() -> Record {
+    Record {
+        processors: 2,
+        events: vec![
+            event(0, STORE, 0, 100, 1),
+            event(0, STORE, 0, 104, 1),
+            event(1, STORE, 0, 108, 1),
+        ],
+        locked: vec![(0, 0)],
+        store_order: vec![0, 1, 2],
+        locked_order: vec![0],
+        views: vec![vec![0, 1, 2], vec![0, 2, 1]],
+        ..Record::default()
+    }
+}
+
+fn cases() -> Vec<Vec<u8>> {
+    let views = |first: &[u8], second: &[u8]| vec![first.to_vec(), second.to_vec()];
+    let records = [
+        s1(),
+        Record { views: views(&[0, 1], &[2, 3, 0]), ..s1() },
+        Record { views: views(&[1, 0, 2], &[2, 3, 0]), ..s1() },
+        Record { store_order: vec![0], ..s1() },
+        Record { reads_from: vec![(0, 3)], ..s1() },
+        s2(),
+        Record { locked_order: vec![0, 0], ..s2() },
+        Record { views: views(&[0, 1, 2], &[3, 0, 2]), ..s2() },
+        Record { views: views(&[0, 1, 2], &[0, 2, 3]), ..s2() },
+        overwritten(),
+        torn(),
+        stores(64, 0),
+        stores(65, 0),
+        stores(64, 16),
+        stores(64, 17),
+    ];
+    let mut cases: Vec<Vec<u8>> = records.iter().map(Record::bytes).collect();
+    let mut empty = vec![0; 18];
+    empty[0] = 1;
+    cases.push(empty);
+    cases.push(vec![]);
+    cases
+}
+
+fn row<T: std::fmt::Display>(name: &str, answer: u16, numbers: &[T]) {
+    print!("{name} {answer}");
+    for number in numbers {
+        print!(" {number}");
+    }
+    println!();
+}
+
+fn table(name: &str, record: &[u8], room: usize) {
+    let mut words = vec![7; room];
+    let answer = order_table(record, &mut words);
+    let filled = words.iter().position(|&word| word == 7).unwrap_or(room);
+    row(name, answer, &words[..filled]);
+}
+
+fn expected(record: &[u8]) {
+    let mut evidence = [9; EVIDENCE_ENTRIES];
+    let (answer, written) = check(record, &mut evidence);
+    let mut numbers = vec![written as u16];
+    numbers.extend(&evidence[..written]);
+    row("check", answer, &numbers);
+    let mut short = [9; EVIDENCE_ENTRIES - 1];
+    let (answer, written) = check(record, &mut short);
+    row("short", answer, &[written as u16, short[0]]);
+    table("order", record, 64);
+    table("tight", record, 3);
+}
+
+fn main() {
+    match std::env::args().nth(1).as_deref() {
+        Some("records") => {
+            let mut out = std::io::stdout();
+            for record in cases() {
+                out.write_all(&(record.len() as u16).to_le_bytes()).expect("records are written");
+                out.write_all(&record).expect("records are written");
+            }
+        }
+        Some("expected") => cases().iter().for_each(|record| expected(record)),
+        _ => eprintln!("check_cases records|expected"),
+    }
+}
