@@ -126,6 +126,39 @@ pub fn s2() -> Record {
     Record { locked: vec![(0, 0), (1, 0)], locked_order: vec![0, 1], ..s1() }
 }
 
+/// Two stores and a load of one address; the load takes the first store.
+pub fn overwritten() -> Record {
+    Record {
+        processors: 1,
+        events: vec![
+            event(0, STORE, 0, 100, 1),
+            event(0, STORE, 1, 100, 1),
+            event(0, LOAD, 2, 100, 1),
+        ],
+        store_order: vec![0, 1],
+        reads_from: vec![(0, 2)],
+        views: vec![vec![0, 1, 2]],
+        ..Record::default()
+    }
+}
+
+/// A locked instruction of two stores, and a store by another processor.
+pub fn torn() -> Record {
+    Record {
+        processors: 2,
+        events: vec![
+            event(0, STORE, 0, 100, 1),
+            event(0, STORE, 0, 104, 1),
+            event(1, STORE, 0, 108, 1),
+        ],
+        locked: vec![(0, 0)],
+        store_order: vec![0, 1, 2],
+        locked_order: vec![0],
+        views: vec![vec![0, 1, 2], vec![0, 2, 1]],
+        ..Record::default()
+    }
+}
+
 /// A small seeded generator (splitmix64).
 pub struct Random(pub u64);
 

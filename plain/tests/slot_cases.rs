@@ -1,6 +1,6 @@
 //! The slot cases, and the errors a builder falls into, one test each.
 
-use plain::sample::{event, register, s1, s2, Record, LOAD, READ, STORE, WRITE};
+use plain::sample::{event, overwritten, register, s1, s2, torn, Record, LOAD, READ, STORE, WRITE};
 use plain::{check, form, order_table, read_off, replay, structure, view};
 
 fn checked(record: &Record) -> (u16, Vec<u16>) {
@@ -58,37 +58,12 @@ fn s2_with_view_0_2_3() {
 
 #[test]
 fn overwritten_source() {
-    let record = Record {
-        processors: 1,
-        events: vec![
-            event(0, STORE, 0, 100, 1),
-            event(0, STORE, 1, 100, 1),
-            event(0, LOAD, 2, 100, 1),
-        ],
-        store_order: vec![0, 1],
-        reads_from: vec![(0, 2)],
-        views: vec![vec![0, 1, 2]],
-        ..Record::default()
-    };
-    assert_eq!(checked(&record), (25, vec![0, 0, 2, 1]));
+    assert_eq!(checked(&overwritten()), (25, vec![0, 0, 2, 1]));
 }
 
 #[test]
 fn locked_instruction_broken_up() {
-    let record = Record {
-        processors: 2,
-        events: vec![
-            event(0, STORE, 0, 100, 1),
-            event(0, STORE, 0, 104, 1),
-            event(1, STORE, 0, 108, 1),
-        ],
-        locked: vec![(0, 0)],
-        store_order: vec![0, 1, 2],
-        locked_order: vec![0],
-        views: vec![vec![0, 1, 2], vec![0, 2, 1]],
-        ..Record::default()
-    };
-    assert_eq!(checked(&record), (27, vec![1, 0, 2, 1]));
+    assert_eq!(checked(&torn()), (27, vec![1, 0, 2, 1]));
 }
 
 #[test]

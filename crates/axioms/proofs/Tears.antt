@@ -15,8 +15,8 @@ use Rattle.rows.specs.Members.{In, Is, Member}
 use Rattle.rows.specs.Table.{rel}
 use Rattle.rows.specs.declared.Set.{Set}
 use Rattle.record.specs.Execution.{Execution}
-use Rattle.record.specs.Words.{SameInstruction}
-use Rattle.facts.specs.Facts.{Enters, Mated}
+use Rattle.record.specs.Words.{SameInstruction, OfLock}
+use Rattle.facts.specs.Facts.{Mated}
 use Rattle.model.specs.Model.{Locked, ViewOrder}
 use Rattle.model.specs.Rules.{Torn}
 use Rattle.axioms.specs.Scene.{Viewed}
@@ -42,7 +42,7 @@ module _ (z : Execution) (p : ℕ) (t : List ℕ) (seen : Set) (v : Viewed z p t
       go (no q) = (l, ll, (i, omega arith, (e, h)))
 
   -- the events of locked instructions; the search for a
-  module _ (locked all : Set) (i : Is locked (λ e. Some (z .locks .size) (λ i. Enters z i e))) (j : Is all (λ k. In locked k × In seen k)) where
+  module _ (locked all : Set) (i : Is locked (λ e. Some (z .locks .size) (λ i. OfLock z i e))) (j : Is all (λ k. In locked k × In seen k)) where
     torn-in : (a : ℕ) → Any 2 (Torn z p a) → In all a
     unfolding Torn Locked
     torn-in a (x, (b, (hp, (k, l, h), same, other, after, before))) =

@@ -6,8 +6,8 @@ ghost use Rattle.order.specs.Rule.{Any};
 ghost use Rattle.rows.specs.Members.{In, Is};
 ghost use Rattle.rows.specs.Table.{HasRow, HasRows};
 ghost use Rattle.record.specs.Execution.{Execution};
-ghost use Rattle.facts.specs.Facts.{Enters, Mated};
-ghost use Rattle.record.specs.Words.{SameInstruction};
+ghost use Rattle.facts.specs.Facts.{Mated};
+ghost use Rattle.record.specs.Words.{SameInstruction, OfLock};
 ghost use Rattle.model.specs.Model.{Locked, ViewOrder};
 ghost use Rattle.model.specs.Rules.{Torn};
 ghost use Rattle.axioms.specs.Scene.{Viewed};
@@ -35,7 +35,7 @@ fn torn_at(t: &[u64], m: &[u64], seen: Set, a: usize) -> bool
 // The least event whose locked instruction is broken up behind it, or 64.
 pub fn torn(t: &[u64], m: &[u64], locked: Set, seen: Set) -> usize
     requires { ⌜ HasRows (now t) 64 × HasRows (now m) 64 ⌝ }
-    ensures { λ r. ⌜ ((z : Execution) (p : ℕ) → Viewed z p (now (t .entry)) seen → Mated z (now (m .entry)) → Is locked (λ e. Some (z .locks .size) (λ i. Enters z i e)) → Hit 64 (λ a. Any 2 (Torn z p a)) r) ⌝ }
+    ensures { λ r. ⌜ ((z : Execution) (p : ℕ) → Viewed z p (now (t .entry)) seen → Mated z (now (m .entry)) → Is locked (λ e. Some (z .locks .size) (λ i. OfLock z i e)) → Hit 64 (λ a. Any 2 (Torn z p a)) r) ⌝ }
 {
     let mut from = rows::common(locked, seen);
     while rows::any(from) {

@@ -1,6 +1,6 @@
 -- A loop over the numbers below a bound that adds the steps of each to a table.
 use Prim.Native.Nat.{ℕ, _+_}
-use mathlib.Core.Path.{_≡_}
+use mathlib.Core.Path.{_≡_, sym, _∙_}
 use mathlib.Core.Logic.{_⊎_, _↔_, inl, inr, ⊎-elim}
 use mathlib.Core.List.{List}
 use native.Mathlib.Omega.{arith}
@@ -11,6 +11,7 @@ use Rattle.rows.specs.Members.{Is}
 use Rattle.rows.specs.Table.{rel, Adds}
 use Rattle.rows.specs.declared.Set.{Set}
 use Rattle.rows.proofs.Table.{adds-none, adds-as, adds-then}
+use Rattle.record.specs.Execution.{Items, Pair}
 use Rattle.facts.specs.Facts.{Blank}
 
 -- the steps of the numbers below i
@@ -32,6 +33,16 @@ module _ (R : ℕ → Rel) (t : List ℕ) where
 
       back : (a b : ℕ) → Some (i + 1) (λ j. R j a b) → Some i (λ j. R j a b) ⊎ R i a b
       back a b (j, l, q) = ⊎-elim (λ (e : j ≡ i). inr (rw e at q)) (λ h. inl (j, h, q)) (last-or i j (omega arith))
+
+-- the step of pair i of a list, and the pairs one after the other
+abbrev pub PairStep : Items Pair → ℕ → Rel
+PairStep l i a b = (l .item i .from ≡ a) × (l .item i .to ≡ b)
+
+pub pairs-more : (l : Items Pair) (t : List ℕ) (i : ℕ) (u v : List ℕ) → Adds t u (Upto (PairStep l) i) → (x y : ℕ) → x ≡ l .item i .from
+    → y ≡ l .item i .to → Adds u v (λ a b. (a ≡ x) × (b ≡ y)) → Adds t v (Upto (PairStep l) (i + 1))
+pairs-more l t i u v d x y ex ey e =
+    upto-more (PairStep l) t i u v d
+    (adds-as u v _ _ (λ a b q. (sym ex ∙ sym (q .0), sym ey ∙ sym (q .1))) (λ a b q. (sym (q .0) ∙ sym ex, sym (q .1) ∙ sym ey)) e)
 
 -- all that a blank table got
 pub blank-adds : (t u : List ℕ) (R : Rel) → Blank t → Adds t u R → (a b : ℕ) → rel u a b ↔ R a b

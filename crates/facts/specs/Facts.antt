@@ -11,7 +11,7 @@ use Rattle.record.specs.Execution.{Execution}
 use Rattle.record.specs.Says.{executionOf}
 use Rattle.record.specs.Laid.{Laid}
 use Rattle.record.specs.declared.Layout.{Layout}
-use Rattle.record.specs.Words.{Memory, Register, SamePlace, Belongs}
+use Rattle.record.specs.Words.{Memory, Register, SamePlace, OfLock}
 use Rattle.facts.specs.declared.Classes.{Classes}
 
 -- a table without steps
@@ -41,27 +41,23 @@ pub record Placed (x : Execution) (q : List ℕ) : Type 0 where
   pub rows : HasRows q 64
   pub pairs : (a b : ℕ) → rel q a b ↔ ((a < x .events .size) × (b < x .events .size) × SamePlace (x .events .item a) (x .events .item b))
 
--- event e is of the locked instruction that is entry i
-abbrev pub Enters : Execution → ℕ → ℕ → Type 0
-Enters x i e = (e < x .events .size) × Belongs (x .events .item e) (x .locks .item i)
-
 -- row i has the events of entry i, row 16 those of all entries
 pub record Entered (x : Execution) (k : List ℕ) : Type 0 where
   pub rows : HasRows k 17
-  pub entry : (i e : ℕ) → i < x .locks .size → rel k i e ↔ Enters x i e
-  pub all : (e : ℕ) → rel k 16 e ↔ Some (x .locks .size) (λ i. Enters x i e)
+  pub entry : (i e : ℕ) → i < x .locks .size → rel k i e ↔ OfLock x i e
+  pub all : (e : ℕ) → rel k 16 e ↔ Some (x .locks .size) (λ i. OfLock x i e)
 
 -- row a has the events of the locked instruction of a
 pub record Mated (x : Execution) (m : List ℕ) : Type 0 where
   pub rows : HasRows m 64
-  pub pairs : (a b : ℕ) → rel m a b ↔ Some (x .locks .size) (λ i. Enters x i a × Enters x i b)
+  pub pairs : (a b : ℕ) → rel m a b ↔ Some (x .locks .size) (λ i. OfLock x i a × OfLock x i b)
 
 pub record Classed (x : Execution) (c : Classes) : Type 0 where
   pub loads : Is (c .loads) (λ e. (e < x .events .size) × (x .events .item e .kind ≡ 0))
   pub stores : Is (c .stores) (λ e. (e < x .events .size) × (x .events .item e .kind ≡ 1))
   pub gets : Is (c .gets) (λ e. (e < x .events .size) × (x .events .item e .kind ≡ 2))
   pub puts : Is (c .puts) (λ e. (e < x .events .size) × (x .events .item e .kind ≡ 3))
-  pub locked : Is (c .locked) (λ e. Some (x .locks .size) (λ i. Enters x i e))
+  pub locked : Is (c .locked) (λ e. Some (x .locks .size) (λ i. OfLock x i e))
 
 -- a record that has the form, where its sections stand, its events by place and by class
 pub record Ready (s : List ℕ) (l : Layout) (q : List ℕ) (c : Classes) : Type 0 where

@@ -16,7 +16,7 @@ use Rattle.cycles.specs.Showing.{Showing}
 use Rattle.record.specs.Execution.{Execution}
 use Rattle.record.specs.Formed.{Formed}
 use Rattle.model.specs.Model.{OrderFor}
-use Rattle.judge.specs.Checked.{causality, QuietAt, ShownAt}
+use Rattle.judge.specs.Later.{causality, QuietAt, ShownAt}
 use Rattle.judge.proofs.Scenes.{Arranged, rows-order, order-rows}
 
 -- the part after the first entry, put back

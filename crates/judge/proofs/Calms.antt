@@ -11,7 +11,7 @@ use Rattle.facts.specs.declared.Classes.{Classes}
 use Rattle.model.specs.Rules.{Overwritten, Torn}
 use Rattle.axioms.specs.Faults.{WrongFrom}
 use Rattle.axioms.specs.Scene.{Scene}
-use Rattle.judge.specs.Checked.{laterRule, QuietAt, RuledAt}
+use Rattle.judge.specs.Later.{laterRule, QuietAt, RuledAt}
 use Rattle.judge.proofs.Showings.{over-quiet, initial-quiet, torn-quiet}
 use Rattle.judge.proofs.Viewings.{ruled-quiet}
 

@@ -15,7 +15,7 @@ use Rattle.record.specs.Execution.{Execution}
 use Rattle.record.specs.Says.{executionOf}
 use Rattle.record.specs.Laid.{Views}
 use Rattle.record.specs.declared.Part.{Part}
-use Rattle.judge.specs.Checked.{laterRule, laterRules, QuietAt, RuledAt}
+use Rattle.judge.specs.Later.{laterRule, laterRules, QuietAt, RuledAt}
 use Rattle.judge.proofs.Viewings.{quiet-kept, view-shown, quiet-next, ruled-quiet, ruled-shown, opens-later, later-shown, later-kept}
 
 -- rule 25 + i is the one that the case of i names

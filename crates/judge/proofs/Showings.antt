@@ -21,7 +21,7 @@ use Rattle.model.specs.Rules.{Overwritten, Unsourced, WrongInitial, Torn}
 use Rattle.axioms.specs.Scene.{Viewed, Scene}
 use Rattle.axioms.specs.Faults.{WrongFrom, Coded, Precedes}
 use Rattle.axioms.proofs.Initials.{initially-unique, wrong-unsourced}
-use Rattle.judge.specs.Checked.{laterRule, QuietAt, RuledAt}
+use Rattle.judge.specs.Later.{laterRule, QuietAt, RuledAt}
 
 -- ---- a rule about p and three numbers below 64, searched for one after the other
 

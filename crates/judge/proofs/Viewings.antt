@@ -11,7 +11,7 @@ use Rattle.order.proofs.Numbers.{last-or}
 use Rattle.order.proofs.Judgements.{rule-shown, given-next, given-none}
 use Rattle.record.specs.Execution.{Execution}
 use Rattle.model.specs.Rules.{Overwritten, WrongInitial, Torn}
-use Rattle.judge.specs.Checked.{causality, laterRule, laterRules, QuietAt, ShownAt, RuledAt}
+use Rattle.judge.specs.Later.{causality, laterRule, laterRules, QuietAt, ShownAt, RuledAt}
 
 -- the empty list does not break the rule, and the first number of a list that does is below n
 pub record Opens (n : ℕ) (q : Rule) : Type 0 where

@@ -20,7 +20,7 @@ use Rattle.record.specs.declared.Part.{Part}
 use Rattle.model.specs.Model.{OrderFor}
 use Rattle.model.specs.Rules.{orderRules}
 use Rattle.judge.specs.declared.Look.{Look}
-use Rattle.judge.specs.Checked.{causality, laterRule, laterRules, QuietAt, Looked}
+use Rattle.judge.specs.Later.{causality, laterRule, laterRules, QuietAt, Looked}
 use Rattle.judge.specs.Ordered.{NoCycle}
 use Rattle.judge.proofs.Behind.{cycle-quiet}
 use Rattle.judge.proofs.Viewings.{quiet-kept, view-shown, opens-24, opens-later, later-kept}

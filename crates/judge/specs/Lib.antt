@@ -1,3 +1,4 @@
 pub mod Checked
+pub mod Later
 pub mod Ordered
 pub mod Tabled

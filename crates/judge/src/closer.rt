@@ -12,7 +12,7 @@ ghost use Rattle.record.specs.Laid.{Laid, Views};
 ghost use Rattle.facts.specs.Facts.{Mated, Classed, Sorted};
 ghost use Rattle.model.specs.Model.{Sourced, Sees, OrderFor};
 ghost use Rattle.axioms.specs.Scene.{Viewed, Sources, Scene};
-ghost use Rattle.judge.specs.Checked.{laterRule, laterRules, RuledAt};
+ghost use Rattle.judge.specs.Later.{laterRule, laterRules, RuledAt};
 ghost use Rattle.judge.specs.Ordered.{Ordered, NoCycle, ReadsSeen, LocksSeen};
 use crate::Known;
 use crate::arranged::arrange;

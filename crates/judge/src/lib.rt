@@ -1,5 +1,8 @@
 // The judge: rules 20 to 27, the check and the order table.
 // Promises: for every byte string and every lent buffer the answer, its evidence, and every entry of the buffer.
+//
+// The tables, by the letter they have everywhere: f the events by processor and kind, q by place, k by locked entry, m those of one
+// locked instruction, u the pairs of section 8, h happens-before, t the table at hand. c are the events by class, g what is known besides.
 use facts::Classes;
 use record::Layout;
 use rows::Set;

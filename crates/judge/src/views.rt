@@ -13,7 +13,7 @@ ghost use Rattle.facts.specs.Facts.{Mated, Sorted};
 ghost use Rattle.model.specs.Model.{Sourced, Sees};
 ghost use Rattle.model.specs.Rules.{orderRules};
 ghost use Rattle.axioms.specs.Scene.{Sources, Scene};
-ghost use Rattle.judge.specs.Checked.{laterRule, QuietAt, Looked};
+ghost use Rattle.judge.specs.Later.{laterRule, QuietAt, Looked};
 ghost use Rattle.judge.specs.Ordered.{Ordered};
 use crate::Known;
 use crate::Look;

@@ -10,8 +10,9 @@ use Rattle.order.proofs.Rules.{cycles-kept, kept-cycles, cyclic-as}
 use Rattle.order.proofs.Searches.{of-any}
 use Rattle.record.specs.Execution.{Execution}
 use Rattle.record.specs.Formed.{Formed}
+use Rattle.record.specs.Words.{OfLock}
 use Rattle.model.specs.Hol.{union, strict, happens-before, check-causality, check-atomicity}
-use Rattle.model.specs.Model.{OfLock, Locked, OrderFor}
+use Rattle.model.specs.Model.{Locked, OrderFor}
 use Rattle.model.specs.Rules.{Torn}
 use Rattle.model.specs.Says.{structureOf, witnessOf}
 use Rattle.model.proofs.Cycles.{acyclic-not, not-acyclic}

@@ -6,9 +6,9 @@ use native.Mathlib.Omega.{arith}
 use native.Mathlib.Decide.{decLt}
 use Rattle.record.specs.Execution.{Execution}
 use Rattle.record.specs.Formed.{Formed}
-use Rattle.record.specs.Words.{SameAddress}
+use Rattle.record.specs.Words.{SameAddress, OfLock}
 use Rattle.model.specs.Hol.{Location, get-l-stores, restrict, strict-linear-order, write-serialization-candidates, lock-serialization-candidates}
-use Rattle.model.specs.Model.{Store, Before, StoreOrder, OfLock, LockedOrder}
+use Rattle.model.specs.Model.{Store, Before, StoreOrder, LockedOrder}
 use Rattle.model.specs.Rules.{WrongStore, WrongLock}
 use Rattle.model.specs.Says.{structureOf, witnessOf}
 use Rattle.model.proofs.Decisions.{dec-stored}

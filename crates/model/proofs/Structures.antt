@@ -11,10 +11,10 @@ use Rattle.order.proofs.Numbers.{dec-some}
 use Rattle.record.specs.Execution.{Instruction, Execution}
 use Rattle.record.specs.Formed.{Formed}
 use Rattle.structure.specs.Structure.{Joining, Unordered, Eventless, Repeated, structureRules}
-use Rattle.record.specs.Words.{SameInstruction, SameRegister, RegisterWrite, Belongs, Causes}
+use Rattle.record.specs.Words.{SameInstruction, SameRegister, RegisterWrite, Belongs, Causes, OfLock}
 use Rattle.record.specs.declared.Event.{Event}
 use Rattle.model.specs.Hol.{PER, wfes}
-use Rattle.model.specs.Model.{Writes, OfLock}
+use Rattle.model.specs.Model.{Writes}
 use Rattle.model.specs.Says.{structureOf}
 use Rattle.order.proofs.Rules.{kept-cycle}
 use Rattle.model.proofs.Cycles.{not-acyclic}

@@ -5,7 +5,7 @@ use mathlib.Core.Logic.{_⊎_}
 use Rattle.order.specs.Least.{Some}
 use Rattle.order.specs.Relation.{Rel, within}
 use Rattle.record.specs.Execution.{Items, Execution}
-use Rattle.record.specs.Words.{Memory, SameAddress, SameRegister, Belongs, Causes}
+use Rattle.record.specs.Words.{Memory, SameAddress, SameRegister, Belongs, OfLock, Causes}
 use Rattle.record.specs.declared.Event.{Event}
 
 abbrev pub Load : Event → Type 0
@@ -51,10 +51,6 @@ Before l a b = Some (l .size) (λ j. Some j (λ i. (l .item i ≡ a) × (l .item
 -- store order: earlier to later in section 6, same address only
 abbrev pub StoreOrder : Execution → Rel
 StoreOrder z a b = Before (z .stores) a b × SameAddress (z .events .item a) (z .events .item b)
-
--- e is an event of the locked instruction that is entry i of section 4
-abbrev pub OfLock : Execution → ℕ → ℕ → Type 0
-OfLock z i e = (e < z .events .size) × Belongs (z .events .item e) (z .locks .item i)
 
 -- locked order: every event of an earlier instruction in section 7 to every event of a later one
 abbrev pub LockedOrder : Execution → Rel

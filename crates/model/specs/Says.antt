@@ -4,9 +4,9 @@ use mathlib.Core.Path.{_≡_}
 use Rattle.order.specs.Least.{Some, None}
 use Rattle.order.specs.Relation.{Rel}
 use Rattle.record.specs.Execution.{Items, Initial, Execution}
-use Rattle.record.specs.Words.{Causes}
+use Rattle.record.specs.Words.{Causes, OfLock}
 use Rattle.record.specs.declared.Event.{Event}
-use Rattle.model.specs.Model.{Before, StoreOrder, OfLock, LockedOrder, Source}
+use Rattle.model.specs.Model.{Before, StoreOrder, LockedOrder, Source}
 use Rattle.model.specs.Rules.{WrongStore, WrongLock}
 use Rattle.model.specs.Hol.{R, W, Location, LOCATION-REG, LOCATION-MEM, Action, ACCESS, EventStructure, ExecutionWitness}
 

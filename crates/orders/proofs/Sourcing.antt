@@ -5,18 +5,17 @@ use mathlib.Core.Logic.{_⊎_, inl, inr, ⊎-elim}
 use mathlib.Core.List.{List}
 use native.Mathlib.Omega.{arith}
 use Rattle.order.specs.Least.{Some}
-use Rattle.order.specs.Relation.{Rel}
 use Rattle.order.proofs.Numbers.{last-or}
 use Rattle.rows.specs.Members.{In, Is}
 use Rattle.rows.specs.Table.{Adds}
 use Rattle.rows.specs.declared.Set.{Set}
-use Rattle.rows.proofs.Table.{adds-none, adds-as, adds-then}
 use Rattle.form.specs.Right.{Right}
 use Rattle.record.specs.Execution.{Items, Pair, Execution}
 use Rattle.record.specs.Says.{executionOf}
 use Rattle.record.specs.Laid.{Stands}
 use Rattle.record.specs.declared.Part.{Part}
 use Rattle.record.proofs.Formings.{formed}
+use Rattle.facts.proofs.Counting.{Upto, PairStep}
 use Rattle.model.specs.Model.{Source, Sourced}
 
 -- the events of pair i are below 64
@@ -30,28 +29,11 @@ module _ (s : List ℕ) (r : Right s) (p : Part) (q : Stands s 8 p) (i : ℕ) (h
   pub reader-low : executionOf s .sources .item i .to < 64
   reader-low = let f = formed s r in let a = f .sources .each i within .1 in let b = f .events .within in omega arith
 
--- the pairs below i, as steps
-unfoldable pub PairsTo : Items Pair → ℕ → Rel
-PairsTo l i a b = Some i (λ j. (l .item j .from ≡ a) × (l .item j .to ≡ b))
-
 -- what the pairs below i go to
 unfoldable pub EndsTo : Items Pair → ℕ → ℕ → Type 0
 EndsTo l i e = Some i (λ j. l .item j .to ≡ e)
 
 module _ (l : Items Pair) where
-  pub pairs-none : (t : List ℕ) → Adds t t (PairsTo l 0)
-  unfolding PairsTo
-  pairs-none t = adds-none t _ (λ a b q. let h = q .1 in omega arith)
-
-  pub pairs-more : (t : List ℕ) (i : ℕ) (u v : List ℕ) → Adds t u (PairsTo l i) → (x y : ℕ) → x ≡ l .item i .from → y ≡ l .item i .to
-      → Adds u v (λ a b. (a ≡ x) × (b ≡ y)) → Adds t v (PairsTo l (i + 1))
-  unfolding PairsTo
-  pairs-more t i u v d x y ex ey e =
-      adds-as t v _ _
-      (λ a b q. ⊎-elim (λ z. (z .0, omega arith, z .2)) (λ z. (i, omega arith, (sym ex ∙ sym (z .0), sym ey ∙ sym (z .1)))) q)
-      (λ a b q. ⊎-elim (λ (z : q .0 ≡ i). inr (let w = q .2 in (sym (w .0) ∙ ap (λ (k : ℕ). l .item k .from) z ∙ sym ex, sym (w .1) ∙ ap (λ (k : ℕ). l .item k .to) z ∙ sym ey))) (λ h. inl (q .0, h, q .2)) (last-or i (q .0) (omega arith)))
-      (adds-then t u v _ _ d e)
-
   pub ends-none : (r : Set) → Is r (λ k. ⊥) → Is r (EndsTo l 0)
   unfolding EndsTo
   ends-none r i = record { says = λ k m. absurd (i .says k m); has = λ k q. let h = q .1 in absurd (omega arith) }
@@ -66,8 +48,8 @@ module _ (l : Items Pair) where
 
 -- all of them
 module _ (z : Execution) (i : ℕ) (e : i ≡ z .sources .size) where
-  pub sources-all : (t u : List ℕ) → Adds t u (PairsTo (z .sources) i) → Adds t u (Source z)
-  unfolding PairsTo Source
+  pub sources-all : (t u : List ℕ) → Adds t u (Upto (PairStep (z .sources)) i) → Adds t u (Source z)
+  unfolding Upto Source
   sources-all t u d = rw e at d
 
   pub sourced-all : (r : Set) → Is r (EndsTo (z .sources) i) → Is r (Sourced z)

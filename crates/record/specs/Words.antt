@@ -1,5 +1,5 @@
 -- The words that the rules use, of events.
-use Prim.Native.Nat.{_<_, _≤_}
+use Prim.Native.Nat.{ℕ, _<_, _≤_}
 use mathlib.Core.Path.{_≡_}
 use mathlib.Core.Logic.{_⊎_}
 use Rattle.order.specs.Least.{Some}
@@ -33,6 +33,10 @@ SameInstruction x y = (x .processor ≡ y .processor) × (x .index ≡ y .index)
 -- the event is of the instruction
 abbrev pub Belongs : Event → Instruction → Type 0
 Belongs x i = (x .processor ≡ i .processor) × (x .index ≡ i .index)
+
+-- e is an event of the locked instruction that is entry i of section 4
+abbrev pub OfLock : Execution → ℕ → ℕ → Type 0
+OfLock x i e = (e < x .events .size) × Belongs (x .events .item e) (x .locks .item i)
 
 -- a section 3 pair from a to b
 unfoldable pub Causes : Execution → Rel

@@ -12,8 +12,8 @@ use Rattle.rows.specs.Table.{rel}
 use Rattle.rows.specs.declared.Set.{Set}
 use Rattle.rows.proofs.Members.{is-as}
 use Rattle.record.specs.Execution.{Instruction, Execution}
-use Rattle.record.specs.Words.{Belongs}
-use Rattle.facts.specs.Facts.{Enters, Entered}
+use Rattle.record.specs.Words.{Belongs, OfLock}
+use Rattle.facts.specs.Facts.{Entered}
 use Rattle.structure.specs.Structure.{Eventless, Repeated}
 
 module _ (x : Execution) (k : List ℕ) (f : Entered x k) (i : ℕ) (l : i < x .locks .size) (here : Set) (h : Is here (rel k i)) where
@@ -27,7 +27,7 @@ module _ (x : Execution) (k : List ℕ) (f : Entered x k) (i : ℕ) (l : i < x .
   eventless-not (e, m) q = let b = f .entry i e l .0 (h .says e m) in q .1 e (b .0) (b .1)
 
   -- ---- rule 14: entries that share an event are one
-  module _ (earlier : Set) (g : Is earlier (λ e. Some i (λ j. Enters x j e))) where
+  module _ (earlier : Set) (g : Is earlier (λ e. Some i (λ j. OfLock x j e))) where
     pub repeated-is : Meet here earlier → Repeated x i
     unfolding Repeated
     repeated-is (e, m, n) =
@@ -40,19 +40,19 @@ module _ (x : Execution) (k : List ℕ) (f : Entered x k) (i : ℕ) (l : i < x .
     unfolding Repeated Eventless
     repeated-not some apart (m, (j, o, e)) = some (l, λ y n b. apart (y, h .has y (f .entry i y l .1 (n, b)), g .has y (j, o, (n, subst (λ (a : Instruction). Belongs (x .events .item y) a) (sym e) b))))
 
-    pub earlier-next : (both : Set) → Is both (λ e. In earlier e ⊎ In here e) → Is both (λ e. Some (i + 1) (λ j. Enters x j e))
+    pub earlier-next : (both : Set) → Is both (λ e. In earlier e ⊎ In here e) → Is both (λ e. Some (i + 1) (λ j. OfLock x j e))
     earlier-next both u = record {
       says = λ e m. ⊎-elim (λ q. let (j, o, c) = g .says e q in (j, omega arith, c)) (λ q. (i, omega arith, f .entry i e l .0 (h .says e q))) (u .says e m);
       has = λ e (j, o, c). u .has e (go e j (last-or i j (omega arith)) c);
     }
       where
-        go : (e j : ℕ) → (j ≡ i) ⊎ (j < i) → Enters x j e → In earlier e ⊎ In here e
+        go : (e j : ℕ) → (j ≡ i) ⊎ (j < i) → OfLock x j e → In earlier e ⊎ In here e
         go e j (inl q) c = inr (h .has e (f .entry i e l .1 (rw q at c)))
         go e j (inr o) c = inl (g .has e (j, o, c))
 
 -- the events of the entries before i, none of which repeats another
 pub record Repeats (x : Execution) (earlier : Set) (i : ℕ) : Type 0 where
-  pub is : Is earlier (λ e. Some i (λ j. Enters x j e))
+  pub is : Is earlier (λ e. Some i (λ j. OfLock x j e))
   pub none : None i (Repeated x)
 
 pub repeats-begin : (x : Execution) (earlier : Set) → Is earlier (λ k. ⊥) → Repeats x earlier 0

@@ -1,15 +1,10 @@
 -- The pairs of section 3.
 use Prim.Native.Nat.{ℕ, _+_, _*_, _<_, _≤_}
 use mathlib.Core.Path.{_≡_, refl, sym, ap, ap₂, _∙_, subst}
-use mathlib.Core.Logic.{_⊎_, inl, inr, ⊎-elim}
 use mathlib.Core.List.{List, [], _∷_}
 use native.Mathlib.Omega.{arith}
 use lib.ListN.{length}
-use Rattle.order.specs.Least.{Some}
-use Rattle.order.specs.Relation.{Rel}
-use Rattle.order.proofs.Numbers.{last-or}
 use Rattle.rows.specs.Table.{Adds}
-use Rattle.rows.proofs.Table.{adds-none, adds-as, adds-then}
 use Rattle.form.specs.Bytes.{num}
 use Rattle.form.specs.Form.{width}
 use Rattle.form.specs.Place.{count, entryAt}
@@ -18,6 +13,7 @@ use Rattle.record.specs.Execution.{Execution}
 use Rattle.record.specs.Says.{executionOf}
 use Rattle.record.specs.Laid.{Stands}
 use Rattle.record.specs.Words.{SameInstruction, Causes}
+use Rattle.facts.proofs.Counting.{Upto, PairStep}
 use Rattle.structure.specs.Structure.{Joining, pairOf}
 use Rattle.record.specs.declared.Event.{Event}
 use Rattle.record.specs.declared.Part.{Part}
@@ -69,31 +65,13 @@ module _ (s : List ℕ) (r : Right s) (p : Part) (q : Stands s 3 p) (i : ℕ) (h
   pub to-low : num 1 s (p .at + 2 * i + 1) < executionOf s .events .size
   to-low = subst (λ (x : ℕ). x < count s 2) (sym pair-to) (formed s r .causes .each i pair-within .1)
 
--- the pairs below i, as steps
-unfoldable pub CausesTo : Execution → ℕ → Rel
-CausesTo x i a b = Some i (λ j. (x .causes .item j .from ≡ a) × (x .causes .item j .to ≡ b))
-
-module _ (x : Execution) (t : List ℕ) where
-  pub causes-none : Adds t t (CausesTo x 0)
-  unfolding CausesTo
-  causes-none = adds-none t _ (λ a b q. let l = q .1 in omega arith)
-
-  pub causes-more : (i : ℕ) (u v : List ℕ) → Adds t u (CausesTo x i) → Adds u v (λ a b. (a ≡ x .causes .item i .from) × (b ≡ x .causes .item i .to))
-      → Adds t v (CausesTo x (i + 1))
-  unfolding CausesTo
-  causes-more i u v d e =
-      adds-as t v _ _
-      (λ a b q. ⊎-elim (λ z. (z .0, omega arith, z .2)) (λ z. (i, omega arith, (sym (z .0), sym (z .1)))) q)
-      (λ a b q. ⊎-elim (λ (z : q .0 ≡ i). inr (let w = q .2 in (sym (w .0) ∙ ap (λ (k : ℕ). x .causes .item k .from) z, sym (w .1) ∙ ap (λ (k : ℕ). x .causes .item k .to) z))) (λ l. inl (q .0, l, q .2)) (last-or i (q .0) (omega arith)))
-      (adds-then t u v _ _ d e)
-
 -- the two numbers that are shown of pair i
 pub pair-shown : (x : Execution) (i a b : ℕ) → a ≡ x .causes .item i .from → b ≡ x .causes .item i .to → a ∷ b ∷ [] ≡ pairOf x i
 pair-shown x i a b e f = ap₂ (λ (y z : ℕ). y ∷ z ∷ []) e f
 
 -- all of them
-pub causes-all : (x : Execution) (t u : List ℕ) (i : ℕ) → i ≡ x .causes .size → Adds t u (CausesTo x i) → Adds t u (Causes x)
-unfolding CausesTo Causes
+pub causes-all : (x : Execution) (t u : List ℕ) (i : ℕ) → i ≡ x .causes .size → Adds t u (Upto (PairStep (x .causes)) i) → Adds t u (Causes x)
+unfolding Upto Causes
 causes-all x t u i e d = rw e at d
 
 -- rule 10 at pair i, of whose events x and y were read

@@ -2,7 +2,7 @@
 //! writes the records, each after its length in two bytes, and `check_cases
 //! expected` what is to be said of them.
 
-use plain::sample::{event, s1, s2, Record, LOAD, STORE};
+use plain::sample::{event, overwritten, s1, s2, torn, Record, STORE};
 use plain::{check, order_table, EVIDENCE_ENTRIES};
 use std::io::Write;
 
@@ -17,39 +17,6 @@ fn stores(n: usize, g: usize) -> Record {
         store_order: numbers.clone(),
         locked_order: (0..g as u8).collect(),
         views: vec![numbers],
-        ..Record::default()
-    }
-}
-
-/// Two stores and a load of one address; the load takes the first store.
-fn overwritten() -> Record {
-    Record {
-        processors: 1,
-        events: vec![
-            event(0, STORE, 0, 100, 1),
-            event(0, STORE, 1, 100, 1),
-            event(0, LOAD, 2, 100, 1),
-        ],
-        store_order: vec![0, 1],
-        reads_from: vec![(0, 2)],
-        views: vec![vec![0, 1, 2]],
-        ..Record::default()
-    }
-}
-
-/// A locked instruction of two stores, and a store by another processor.
-fn torn() -> Record {
-    Record {
-        processors: 2,
-        events: vec![
-            event(0, STORE, 0, 100, 1),
-            event(0, STORE, 0, 104, 1),
-            event(1, STORE, 0, 108, 1),
-        ],
-        locked: vec![(0, 0)],
-        store_order: vec![0, 1, 2],
-        locked_order: vec![0],
-        views: vec![vec![0, 1, 2], vec![0, 2, 1]],
         ..Record::default()
     }
 }

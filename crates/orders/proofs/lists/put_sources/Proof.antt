@@ -2,19 +2,20 @@ use Prim.Native.Nat.{_-_, _≤_}
 use native.Mathlib.Omega.{arith}
 use Rattle.record.specs.Says.{executionOf}
 use Rattle.rows.specs.Table.{Adds}
-use Rattle.orders.proofs.Sourcing.{source-low, reader-low, PairsTo, pairs-none, pairs-more, sources-all}
+use Rattle.facts.proofs.Counting.{Upto, PairStep, upto-none, pairs-more}
+use Rattle.orders.proofs.Sourcing.{source-low, reader-low, sources-all}
 use Rattle.orders.proofs.lists.put_sources.Statement.{statement}
 use Rattle.orders.proofs.lists.put_sources.Tie as tie
 
 abbrev Inv-loop : tie.InvT-loop
-Inv-loop s sources t₀ m i₀ t i = (i ≤ m) × Adds t₀ t (PairsTo (executionOf s .sources) i)
+Inv-loop s sources t₀ m i₀ t i = (i ≤ m) × Adds t₀ t (Upto (PairStep (executionOf s .sources)) i)
 
 abbrev μ-loop : tie.MeasureT-loop
 μ-loop s sources t₀ m i₀ t i = m - i
 
 loop-holds : tie.Need-loop-holds Inv-loop μ-loop
 loop-holds c = let a = c .before .before .args in
-    (omega arith, pairs-none (executionOf (a .s .now) .sources) _)
+    (omega arith, upto-none (PairStep (executionOf (a .s .now) .sources)) _)
 
 source-of-requires : tie.Need-source-of-requires Inv-loop μ-loop
 source-of-requires c κs = let p = c .before .before .before .before .before .pre in

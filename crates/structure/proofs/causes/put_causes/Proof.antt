@@ -1,22 +1,22 @@
-use Rattle.structure.proofs.Pairs.{causes-all}
 use Prim.Native.Nat.{_-_, _≤_}
 use mathlib.Core.Path.{_∙_}
 use native.Mathlib.Omega.{arith}
 use Rattle.rows.specs.Table.{Adds}
 use Rattle.record.specs.Says.{executionOf}
 use Rattle.record.proofs.Formings.{formed}
-use Rattle.structure.proofs.Pairs.{pair-fits, pair-low, pair-from, pair-to, from-low, to-low, CausesTo, causes-none, causes-more}
+use Rattle.facts.proofs.Counting.{Upto, PairStep, upto-none, pairs-more}
+use Rattle.structure.proofs.Pairs.{pair-fits, pair-low, pair-from, pair-to, from-low, to-low, causes-all}
 use Rattle.structure.proofs.causes.put_causes.Statement.{statement}
 use Rattle.structure.proofs.causes.put_causes.Tie as tie
 
 abbrev Inv-loop : tie.InvT-loop
-Inv-loop s t₀ from m i₀ t i = (i ≤ m) × Adds t₀ t (CausesTo (executionOf s) i)
+Inv-loop s t₀ from m i₀ t i = (i ≤ m) × Adds t₀ t (Upto (PairStep (executionOf s .causes)) i)
 
 abbrev μ-loop : tie.MeasureT-loop
 μ-loop s t₀ from m i₀ t i = m - i
 
 loop-holds : tie.Need-loop-holds Inv-loop μ-loop
-loop-holds c = (omega arith, causes-none _ _)
+loop-holds c = (omega arith, upto-none (PairStep (executionOf (c .before .before .args .s .now) .causes)) _)
 
 mul-at : tie.Need-mul-at Inv-loop μ-loop
 mul-at c = let p = c .before .before .before .before .pre in
@@ -67,7 +67,7 @@ loop-again c = let n = c .before .before .before in
     let p = l .before .before .before .before .pre in
     let x = n .before .num1 .ensures .0 ∙ pair-from _ (p .0) _ (p .1) (l .before .loop .i) (l .loop-test .taken) in
     let y = n .num12 .ensures .0 ∙ pair-to _ (p .0) _ (p .1) (l .before .loop .i) (l .loop-test .taken) in
-    (omega arith, causes-more _ _ _ _ _ (l .before .loop .inv .1) (rw (x, y) at (c .before .before .link .ensures)))
+    (omega arith, pairs-more (executionOf (l .before .before .before .before .args .s .now) .causes) _ _ _ _ (l .before .loop .inv .1) _ _ x y (c .before .before .link .ensures))
 
 same-length : tie.Need-same-length Inv-loop μ-loop
 same-length c = c .before .loop .inv .1 .same
