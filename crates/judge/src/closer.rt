@@ -158,19 +158,8 @@ fn seek(
     let mut p = 0;
     while p < n {
         let view = view_of(s, p, at);
-        let k = show(
-            i,
-            s,
-            view,
-            q,
-            m,
-            u,
-            h,
-            g,
-            rows::union(rows::row(f, p), c.stores),
-            p,
-            ev,
-        );
+        let seen = rows::union(rows::row(f, p), c.stores);
+        let k = show(i, s, view, q, m, u, h, g, seen, p, ev);
         if 0 < k {
             return k;
         }

@@ -98,18 +98,8 @@ pub fn from_twentyfour(
     let mut p = 0;
     while p < n {
         let view = view_of(s, p, at);
-        let found = look(
-            s,
-            view,
-            q,
-            m,
-            u,
-            h,
-            g,
-            rows::union(rows::row(f, p), c.stores),
-            p,
-            ev,
-        );
+        let seen = rows::union(rows::row(f, p), c.stores);
+        let found = look(s, view, q, m, u, h, g, seen, p, ev);
         if 0 < found.count {
             return Verdict {
                 answer: 24,
