@@ -51,7 +51,7 @@ module _ (l : Items ℕ) where
 
   module _ (once : Single) where
     -- an event has one place
-    one-place : (e i j : ℕ) → i < l .size → j < l .size → l .item i ≡ e → l .item j ≡ e → i ≡ j
+    pub one-place : (e i j : ℕ) → i < l .size → j < l .size → l .item i ≡ e → l .item j ≡ e → i ≡ j
     one-place e i j h g x y = go (decLt i j) (decLt j i)
       where
         go : Dec (i < j) → Dec (j < i) → i ≡ j

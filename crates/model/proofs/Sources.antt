@@ -78,7 +78,7 @@ module _ (z : Execution) where
         go : witnessOf z .initial-state (loc (structureOf z) r) u → Initially z (z .events .item r) u
         go (i, h, (a, n, e)) = (i, h, (entry-initial (z .events .item r) _ a, λ j m b. n j m (initial-entry (z .events .item r) _ b), e))
 
-    initially-one : (t u : ℕ) → Initially z (z .events .item r) t → Initially z (z .events .item r) u → t ≡ u
+    pub initially-one : (t u : ℕ) → Initially z (z .events .item r) t → Initially z (z .events .item r) u → t ≡ u
     initially-one t u (i, h, (a, n, d)) (j, g, (b, m, e)) =
         sym d ∙ ap (λ (k : ℕ). z .initials .item k .value) (least-unique (λ k. InitialFor (z .events .item r) (z .initials .item k)) i j (a, n) (b, m)) ∙ e
 

@@ -1,0 +1,9 @@
+pub mod Along
+pub mod Demand3
+pub mod Locking
+pub mod Members
+pub mod Pasts
+pub mod Picking
+pub mod Reading
+pub mod Sourcing
+pub mod Tests
