@@ -1,4 +1,4 @@
--- One path, depth first: what holds between the turns of `left`.
+-- One path, depth first: what holds between the turns of `dig`.
 use Prim.Native.Nat.{ℕ, zero, suc, _+_, _<_, _≤_}
 use mathlib.Core.Path.{_≡_, refl, _∙_}
 use mathlib.Core.List.{List, [], _∷_}
@@ -8,14 +8,15 @@ use native.Mathlib.Decide.{ℕ-discrete}
 use lib.ListN.{length, getD, set, length-set, replicate, getD-replicate}
 use lib.Seq.{getD-set-same, getD-set-other}
 use Rattle.order.specs.Least.{Hit}
+use Rattle.order.specs.Relation.{Rel}
 use Rattle.order.specs.Walk.{Walk}
 use Rattle.order.proofs.Walks.{peel, snoc}
-use Rattle.order.proofs.Cycles.{walk-cyclic}
+use Rattle.order.proofs.Cycles.{walk-cyclic, cyclic-walk}
 use Rattle.rows.specs.Members.{In, Is, Member, Meet, value}
 use Rattle.rows.specs.Table.{rel, on}
 use Rattle.rows.specs.declared.Set.{Set}
 use Rattle.rows.proofs.Members.{in-low, first-in, subset-less}
-use Rattle.cycles.specs.Search.{Left}
+use Rattle.cycles.specs.Search.{among, Left}
 
 -- the path has been at x
 abbrev pub Been : List ℕ → ℕ → Type 0
@@ -27,17 +28,17 @@ Along from zero x v = x ≡ v
 Along from (suc k) x v = (getD from v 0 ≡ v → ⊥) × Along from k x (getD from v 0)
 
 -- every closed walk is in live, and no path has been there
-pub record Fresh (t : List ℕ) (n : ℕ) (live : Set) (from : List ℕ) : Type 0 where
+pub record Fresh (t : List ℕ) (all live : Set) (from : List ℕ) : Type 0 where
   pub same : length from ≡ 64
-  pub low : (a : ℕ) → In live a → a < n
-  pub covers : (k a : ℕ) → Walk (on n t) (suc k) a a → In live a
+  pub low : (a : ℕ) → In live a → In all a
+  pub covers : (k a : ℕ) → Walk (among t all) (suc k) a a → In live a
   pub fresh : (x : ℕ) → In live x → getD from x 0 ≡ 64
 
 -- every closed walk is in live; where the path has been and what is live is the path to v
-pub record Digging (t : List ℕ) (n : ℕ) (live : Set) (from : List ℕ) (v : ℕ) : Type 0 where
+pub record Digging (t : List ℕ) (all live : Set) (from : List ℕ) (v : ℕ) : Type 0 where
   pub same : length from ≡ 64
-  pub low : (a : ℕ) → In live a → a < n
-  pub covers : (k a : ℕ) → Walk (on n t) (suc k) a a → In live a
+  pub low : (a : ℕ) → In live a → In all a
+  pub covers : (k a : ℕ) → Walk (among t all) (suc k) a a → In live a
   pub here : In live v
   pub been : Been from v
   pub back : (x : ℕ) → In live x → Been from x
@@ -79,17 +80,17 @@ free-less (y ∷ l) (suc i) x h e g = omega (arith, free-less l i x (omega arith
 
 -- ---- a path begins
 
-module _ (t : List ℕ) (n : ℕ) where
-  pub fresh-begin : (live : Set) → Is live (λ k. k < n) → Fresh t n live (replicate 64 64)
-  fresh-begin live i = record {
+module _ (t : List ℕ) (all : Set) where
+  pub fresh-begin : Fresh t all all (replicate 64 64)
+  fresh-begin = record {
     same = refl;
-    low = i .says;
-    covers = λ k a w. i .has a (w .1 .0);
-    fresh = λ x m. getD-replicate 64 x 64 0 (in-low live x m);
+    low = λ a i. i;
+    covers = λ k a w. w .1 .0;
+    fresh = λ x i. getD-replicate 64 x 64 0 (in-low all x i);
   }
 
-  module _ (live : Set) (from : List ℕ) (p : Fresh t n live from) where
-    pub fresh-start : (a : ℕ) → In live a → Digging t n live (set from a a) a
+  module _ (live : Set) (from : List ℕ) (p : Fresh t all live from) where
+    pub fresh-start : (a : ℕ) → In live a → Digging t all live (set from a a) a
     fresh-start a i = record {
       same = length-set from a a ∙ p .same;
       low = p .low;
@@ -110,18 +111,18 @@ module _ (t : List ℕ) (n : ℕ) where
             go (yes e) = e
             go (no g) = absurd (b (getD-set-other from a x a 0 g ∙ p .fresh x j))
 
-    pub fresh-done : (Member live → ⊥) → Left (on n t) live
-    fresh-done f = record { covers = p .covers; cyclic = λ a i. absurd (f (a, i)) }
+    pub fresh-done : (Member live → ⊥) → Left (among t all) live × ((a : ℕ) → In live a → In all a)
+    fresh-done f = (record { covers = p .covers; cyclic = λ a i. absurd (f (a, i)) }, p .low)
 
   -- ---- it goes on, closes a cycle, or goes back
 
-  module _ (live : Set) (from : List ℕ) (v : ℕ) (p : Digging t n live from v) where
-    walk : (k x u : ℕ) → In live u → Been from u → Along from k x u → Walk (on n t) k x u
+  module _ (live : Set) (from : List ℕ) (v : ℕ) (p : Digging t all live from v) where
+    walk : (k x u : ℕ) → In live u → Been from u → Along from k x u → Walk (among t all) k x u
     walk zero x u i b e = e
     walk (suc k) x u i b (g, h) =
         ⊎-elim
         (λ e. absurd (g e))
-        (λ q. snoc (on n t) k x _ u (walk k x _ (q .0) (q .1) h) (p .low _ (q .0), p .low u i, q .2))
+        (λ q. snoc (among t all) k x _ u (walk k x _ (q .0) (q .1) h) (p .low _ (q .0), p .low u i, q .2))
         (p .back u i b)
 
     -- an event without a step into live is taken out
@@ -129,15 +130,15 @@ module _ (t : List ℕ) (n : ℕ) where
       pub dig-less : value rest < value live
       dig-less = subset-less live rest (λ k r. q .says k r .0) u i (λ r. q .says u r .1 refl)
 
-      covers : (k a : ℕ) → Walk (on n t) (suc k) a a → In rest a
-      covers k a w = q .has a (p .covers k a w, peel (on n t) (In live) u (p .covers) (λ c r. stuck c (r .2)) k a w)
+      covers : (k a : ℕ) → Walk (among t all) (suc k) a a → In rest a
+      covers k a w = q .has a (p .covers k a w, peel (among t all) (In live) u (p .covers) (λ c r. stuck c (r .2)) k a w)
 
       back : (x : ℕ) → In rest x → Been from x → (getD from x 0 ≡ x) ⊎ (In rest (getD from x 0) × Been from (getD from x 0) × rel t (getD from x 0) x)
       back x j b = ⊎-elim (λ e. inl e) (λ m. inr (q .has _ (m .0, λ e. stuck x (rw e at (m .2)) (q .says x j .0)), m .1, m .2)) (p .back x (q .says x j .0) b)
 
     module _ (w : ℕ) (i : In live w) (r : rel t v w) where
       -- the path can go to w, which ends there
-      pub dig-leaf : (stuck : (c : ℕ) → rel t w c → In live c → ⊥) (rest : Set) → Is rest (λ j. In live j × (j ≡ w → ⊥)) → Digging t n rest from v
+      pub dig-leaf : (stuck : (c : ℕ) → rel t w c → In live c → ⊥) (rest : Set) → Is rest (λ j. In live j × (j ≡ w → ⊥)) → Digging t all rest from v
       dig-leaf stuck rest q = record {
         same = p .same;
         low = λ a j. p .low a (q .says a j .0);
@@ -149,11 +150,11 @@ module _ (t : List ℕ) (n : ℕ) where
       }
 
       -- it has been at w
-      pub dig-found : Been from w → Left (on n t) live
+      pub dig-found : Been from w → Left (among t all) live × ((a : ℕ) → In live a → In all a)
       dig-found b =
           let (k, h) = p .path w i b in
-          let c = walk-cyclic (on n t) k w (snoc (on n t) k w v w (walk k w v (p .here) (p .been) h) (p .low v (p .here), p .low w i, r)) in
-          record { covers = p .covers; cyclic = λ a j. c }
+          let c = walk-cyclic (among t all) k w (snoc (among t all) k w v w (walk k w v (p .here) (p .been) h) (p .low v (p .here), p .low w i, r)) in
+          (record { covers = p .covers; cyclic = λ a j. c }, p .low)
 
       -- it goes to w
       module _ (e : getD from w 0 ≡ 64) where
@@ -178,7 +179,7 @@ module _ (t : List ℕ) (n : ℕ) where
             (λ m. rw (other y (apart y b)) (g, along k x _ (m .0) (m .1) h))
             (p .back y j b)
 
-        pub dig-on : Digging t n live (set from w v) w
+        pub dig-on : Digging t all live (set from w v) w
         dig-on = record {
           same = length-set from w v ∙ p .same;
           low = p .low;
@@ -206,7 +207,7 @@ module _ (t : List ℕ) (n : ℕ) where
     -- v has no step into live
     module _ (stuck : (c : ℕ) → rel t v c → In live c → ⊥) (rest : Set) (q : Is rest (λ j. In live j × (j ≡ v → ⊥))) where
       -- the path began at v
-      pub dig-end : getD from v 0 ≡ v → Fresh t n rest from
+      pub dig-end : getD from v 0 ≡ v → Fresh t all rest from
       dig-end e = record {
         same = p .same;
         low = λ a j. p .low a (q .says a j .0);
@@ -223,7 +224,7 @@ module _ (t : List ℕ) (n : ℕ) where
           fresh x j (no b) = let (k, h) = p .path x (q .says x j .0) b in absurd (gone x j k h)
 
       -- it came from another
-      pub dig-back : (getD from v 0 ≡ v → ⊥) → Digging t n rest from (getD from v 0)
+      pub dig-back : (getD from v 0 ≡ v → ⊥) → Digging t all rest from (getD from v 0)
       dig-back g = record {
         same = p .same;
         low = λ a j. p .low a (q .says a j .0);
@@ -243,6 +244,10 @@ module _ (t : List ℕ) (n : ℕ) where
 
 -- ---- what the sets say
 
+-- no member is found
+pub hit-none : (s : Set) (v : ℕ) → Hit 64 (In s) v → 64 ≤ v → Member s → ⊥
+hit-none s v f h (a, i) = f .none a (let l = in-low s a i in omega arith) i
+
 module _ (t : List ℕ) (live : Set) (v : ℕ) (row : Set) (ir : Is row (rel t v)) where
   pub no-meet : (Meet row live → ⊥) → (c : ℕ) → rel t v c → In live c → ⊥
   no-meet f c r i = f (c, ir .has c r, i)
@@ -253,3 +258,18 @@ module _ (t : List ℕ) (live : Set) (v : ℕ) (row : Set) (ir : Is row (rel t v
 
     pub next-in : Member next → (w : ℕ) → Hit 64 (In next) w → In live w × rel t v w
     next-in m w f = let h = q .says w (first-in next m w f) in (h .1, ir .says w (h .0))
+
+-- ---- of the events below n
+
+-- steps of one relation are steps of another
+pub walk-as : (R Q : Rel) → ((a b : ℕ) → R a b → Q a b) → (k a b : ℕ) → Walk R k a b → Walk Q k a b
+walk-as R Q f zero a b w = w
+walk-as R Q f (suc k) a b (c, r, w) = (c, f a c r, walk-as R Q f k c b w)
+
+pub left-on : (t : List ℕ) (n : ℕ) (all live : Set) → Is all (λ k. k < n) → Left (among t all) live → Left (on n t) live
+left-on t n all live i p = record {
+  covers = λ k a w. p .covers k a (walk-as (on n t) (among t all) (λ x y r. (i .has x (r .0), i .has y (r .1), r .2)) (suc k) a a w);
+  cyclic = λ a m.
+      let (k, b, w) = cyclic-walk (among t all) (p .cyclic a m) in
+      walk-cyclic (on n t) k b (walk-as (among t all) (on n t) (λ x y r. (i .says x (r .0), i .says y (r .1), r .2)) (suc k) b b w);
+}

@@ -4,11 +4,10 @@ ghost use mathlib.Core.Path.{_≡_};
 ghost use Prim.Native.Nat.{ℕ, _≤_, _<_};
 ghost use lib.ListN.{length};
 ghost use Rattle.order.specs.Decides.{Decides};
-ghost use Rattle.order.specs.Least.{Hit};
 ghost use Rattle.order.specs.Relation.{Cyclic, Chain};
 ghost use Rattle.rows.specs.Members.{In, Is, Member};
-ghost use Rattle.rows.specs.Table.{HasRow, HasRows, rel, on};
-ghost use Rattle.cycles.specs.Search.{Left, From, Into, Away, Distance, Shortest};
+ghost use Rattle.rows.specs.Table.{HasRow, HasRows, Adds, rel, on};
+ghost use Rattle.cycles.specs.Search.{Left, among, From, Into, Away, Distance, Shortest, Levels, Round};
 ghost use Rattle.cycles.specs.Showing.{Showing, Exhibited};
 use rows::Set;
 
@@ -18,20 +17,20 @@ fn wide(x: u8) -> usize
     x as usize
 }
 
-// What is left of the events below n when events with no step into what is left are taken away: one path, depth first, that
-// goes back where it cannot go on. Each event that it goes to keeps the event that it came from (the first itself), the others 64.
-// A step to an event on the path closes a cycle, and the rest is not looked at.
-pub fn left(t: &[u64], n: usize) -> Set
-    requires { ⌜ (n ≤ 64) × HasRows (now t) n ⌝ }
-    ensures { λ r. ⌜ Left (on n (now (t .entry))) r ⌝ }
+// What is left of a set when events with no step into what is left are taken away: one path, depth first, that goes back where it
+// cannot go on. Each event that it goes to keeps the event that it came from (the first itself), the others 64. A step to an event
+// on the path closes a cycle, and the rest is not looked at.
+fn dig(t: &[u64], all: Set) -> Set
+    requires { ⌜ ((a : ℕ) → In all a → HasRow (now t) a) ⌝ }
+    ensures { λ r. ⌜ Left (among (now (t .entry)) all) r × ((a : ℕ) → In r a → In all a) ⌝ }
 {
-    let mut live = rows::full(n);
-    if n == 0 {
+    let mut live = all;
+    if !rows::any(live) {
         return live;
     }
+    let mut v = rows::first(live);
     let mut from = [64u8; 64];
-    from[0] = 0;
-    let mut v = 0;
+    from[v] = v as u8;
     loop {
         let next = rows::common(rows::row(t, v), live);
         if rows::any(next) {
@@ -49,7 +48,7 @@ pub fn left(t: &[u64], n: usize) -> Set
             let p = wide(from[v]);
             if p == v {
                 v = rows::first(live);
-                if n <= v {
+                if 64 <= v {
                     return live;
                 }
                 from[v] = v as u8;
@@ -60,6 +59,14 @@ pub fn left(t: &[u64], n: usize) -> Set
     }
 }
 
+// What is left of the events below n.
+pub fn left(t: &[u64], n: usize) -> Set
+    requires { ⌜ (n ≤ 64) × HasRows (now t) n ⌝ }
+    ensures { λ r. ⌜ Left (on n (now (t .entry))) r ⌝ }
+{
+    dig(t, rows::full(n))
+}
+
 // Whether there is a cycle.
 pub fn cyclic(t: &[u64], n: usize) -> bool
     requires { ⌜ (n ≤ 64) × HasRows (now t) n ⌝ }
@@ -68,10 +75,10 @@ pub fn cyclic(t: &[u64], n: usize) -> bool
     rows::any(left(t, n))
 }
 
-// The events below n to which a member of w has a step.
-fn onward(t: &[u64], n: usize, w: Set) -> Set
-    requires { ⌜ (n ≤ 64) × HasRows (now t) n × ((a : ℕ) → In w a → a < n) ⌝ }
-    ensures { λ r. ⌜ Is r (From (on n (now (t .entry))) w) ⌝ }
+// The members of all to which a member of w has a step.
+fn onward(t: &[u64], all: Set, w: Set) -> Set
+    requires { ⌜ ((a : ℕ) → In all a → HasRow (now t) a) × ((a : ℕ) → In w a → In all a) ⌝ }
+    ensures { λ r. ⌜ Is r (From (among (now (t .entry)) all) w) ⌝ }
 {
     let mut from = w;
     let mut r = rows::none();
@@ -80,20 +87,20 @@ fn onward(t: &[u64], n: usize, w: Set) -> Set
         r = rows::union(r, rows::row(t, a));
         from = rows::without(from, a);
     }
-    rows::common(r, rows::full(n))
+    rows::common(r, all)
 }
 
-// How many steps b is away from a, at least one, if that is below the limit; else the limit.
-fn steps(t: &[u64], n: usize, a: usize, b: usize, limit: usize) -> usize
-    requires { ⌜ (n ≤ 64) × HasRows (now t) n × (a < n) × (b < n) × (0 < limit) ⌝ }
-    ensures { λ r. ⌜ Away (on n (now (t .entry))) a b limit r ⌝ }
+// How many steps lead from s through members of all back to s, if that is below the limit; else the limit.
+fn steps(t: &[u64], all: Set, s: usize, limit: usize) -> usize
+    requires { ⌜ ((a : ℕ) → In all a → HasRow (now t) a) × In all s × (0 < limit) ⌝ }
+    ensures { λ r. ⌜ Away (among (now (t .entry)) all) s s limit r ⌝ }
 {
     let mut seen = rows::none();
-    let mut front = rows::one(a);
+    let mut front = rows::one(s);
     let mut k = 1;
     while k < limit {
-        front = rows::minus(onward(t, n, front), seen);
-        if rows::has(front, b) {
+        front = rows::minus(onward(t, all, front), seen);
+        if rows::has(front, s) {
             return k;
         }
         if !rows::any(front) {
@@ -111,71 +118,25 @@ pub struct Found {
     pub at: usize,
 }
 
-// The length of the shortest cycle, and the least event on one as short. Every cycle is in live.
+// The length of the shortest cycle, and the least event on one as short. Every cycle is in live. Starts are tried from the least
+// on, each through what is left when those before it are taken away.
 fn shortest(t: &[u64], n: usize, live: Set) -> Found
     requires { ⌜ (n ≤ 64) × HasRows (now t) n × Left (on n (now t)) live × Member live ⌝ }
     ensures { λ r. ⌜ Shortest (on n (now (t .entry))) (r .len) (r .at) ⌝ }
 {
     let mut len = n + 1;
     let mut at = 0;
-    let mut from = rows::common(live, rows::full(n));
-    while rows::any(from) {
-        let s = rows::first(from);
-        let k = steps(t, n, s, s, len);
+    let mut rest = rows::common(live, rows::full(n));
+    while rows::any(rest) {
+        let s = rows::first(rest);
+        let k = steps(t, rest, s, len);
         if k < len {
             len = k;
             at = s;
         }
-        from = rows::without(from, s);
+        rest = dig(t, rows::without(rest, s));
     }
     Found { len, at }
-}
-
-// The least event to which v has a step and from which s is k steps away, or 64.
-fn next(t: &[u64], n: usize, v: usize, s: usize, k: usize) -> usize
-    requires { ⌜ (n ≤ 64) × HasRows (now t) n × (v < n) × (s < n) × (0 < k) × (k < 64) ⌝ }
-    ensures { λ r. ⌜ Hit 64 (λ x. on n (now (t .entry)) v x × Distance (on n (now (t .entry))) k x s) r ⌝ }
-{
-    let mut from = rows::common(rows::row(t, v), rows::full(n));
-    while rows::any(from) {
-        let x = rows::first(from);
-        if steps(t, n, x, s, k + 1) == k {
-            return x;
-        }
-        from = rows::without(from, x);
-    }
-    64
-}
-
-// Writes the shortest closed walk at s that goes to the least event it can.
-fn fill(t: &[u64], n: usize, s: usize, len: usize, out: &mut [u16])
-    requires { ⌜ (n ≤ 64) × HasRows (now t) n × (len ≤ n) × (len ≤ length (now out)) × Shortest (on n (now t)) len s ⌝ }
-    ensures { λ r. ⌜ Exhibited (on n (now (t .entry))) (now (out .entry)) (now (out .exit)) len ⌝ }
-{
-    out[0] = s as u16;
-    let mut v = s;
-    let mut i = 1;
-    while i < len {
-        v = next(t, n, v, s, len - i);
-        out[i] = v as u16;
-        i += 1;
-    }
-}
-
-// Writes the cycle that is shown, if there is a cycle, and returns how many entries it has; else 0.
-pub fn show(t: &[u64], n: usize, out: &mut [u16]) -> usize
-    requires { ⌜ (n ≤ 64) × HasRows (now t) n × (n ≤ length (now out)) ⌝ }
-    ensures { λ r. ⌜ Showing (on n (now (t .entry))) (now (out .entry)) (now (out .exit)) r ⌝ }
-{
-    let live = left(t, n);
-    if !rows::any(live) {
-        return 0;
-    }
-    let f = shortest(t, n, live);
-    let len = f.len;
-    let at = f.at;
-    fill(t, n, at, len, out);
-    len
 }
 
 // The members of `from` with a step to a member of w.
@@ -193,6 +154,80 @@ fn back(t: &[u64], from: Set, w: Set) -> Set
         rest = rows::without(rest, a);
     }
     r
+}
+
+// Adds to row k of u, for k below len, the events below n that are k steps away from s.
+fn levels(t: &[u64], n: usize, s: usize, len: usize, u: &mut [u64])
+    requires { ⌜ (n ≤ 64) × HasRows (now t) n × (s < n) × HasRows (now u) len ⌝ }
+    ensures { λ r. ⌜ Adds (now (u .entry)) (now (u .exit)) (λ k x. (k < len) × Distance (on n (now (t .entry))) k s x) ⌝ }
+{
+    let all = rows::full(n);
+    let mut seen = rows::none();
+    let mut front = rows::one(s);
+    let mut k = 0;
+    while k < len {
+        rows::add(u, k, front);
+        front = rows::minus(onward(t, all, front), seen);
+        seen = rows::union(seen, front);
+        k += 1;
+    }
+}
+
+// The events on the shortest closed walks at s, which have len steps, by the levels of s.
+fn closing(t: &[u64], n: usize, u: &[u64], s: usize, len: usize) -> Set
+    requires { ⌜ (n ≤ 64) × HasRows (now t) n × HasRows (now u) len × Shortest (on n (now t)) len s × Levels (on n (now t)) (now u) s len ⌝ }
+    ensures { λ r. ⌜ Is r (Round (on n (now (t .entry))) s len 1) ⌝ }
+{
+    let mut r = rows::one(s);
+    let mut k = len;
+    while 1 < k {
+        k -= 1;
+        r = rows::union(r, back(t, rows::row(u, k), r));
+    }
+    r
+}
+
+// Writes the shortest closed walk at s that goes to the least event it can, by the levels of s and the events on such walks.
+fn write(t: &[u64], n: usize, u: &[u64], good: Set, s: usize, len: usize, out: &mut [u16])
+    requires { ⌜ (n ≤ 64) × HasRows (now t) n × HasRows (now u) len × Shortest (on n (now t)) len s × Levels (on n (now t)) (now u) s len ⌝ }
+    requires { ⌜ Is good (Round (on n (now t)) s len 1) × (len ≤ length (now out)) ⌝ }
+    ensures { λ r. ⌜ Exhibited (on n (now (t .entry))) (now (out .entry)) (now (out .exit)) len ⌝ }
+{
+    out[0] = s as u16;
+    let mut v = s;
+    let mut i = 1;
+    while i < len {
+        v = rows::first(rows::common(rows::row(t, v), rows::common(rows::row(u, i), good)));
+        out[i] = v as u16;
+        i += 1;
+    }
+}
+
+// Writes the shortest closed walk at s that goes to the least event it can.
+fn fill(t: &[u64], n: usize, s: usize, len: usize, out: &mut [u16])
+    requires { ⌜ (n ≤ 64) × HasRows (now t) n × (len ≤ n) × (len ≤ length (now out)) × Shortest (on n (now t)) len s ⌝ }
+    ensures { λ r. ⌜ Exhibited (on n (now (t .entry))) (now (out .entry)) (now (out .exit)) len ⌝ }
+{
+    let mut u = [0u64; 64];
+    levels(t, n, s, len, &mut u);
+    let good = closing(t, n, &u, s, len);
+    write(t, n, &u, good, s, len, out);
+}
+
+// Writes the cycle that is shown, if there is a cycle, and returns how many entries it has; else 0.
+pub fn show(t: &[u64], n: usize, out: &mut [u16]) -> usize
+    requires { ⌜ (n ≤ 64) × HasRows (now t) n × (n ≤ length (now out)) ⌝ }
+    ensures { λ r. ⌜ Showing (on n (now (t .entry))) (now (out .entry)) (now (out .exit)) r ⌝ }
+{
+    let live = left(t, n);
+    if !rows::any(live) {
+        return 0;
+    }
+    let f = shortest(t, n, live);
+    let len = f.len;
+    let at = f.at;
+    fill(t, n, at, len, out);
+    len
 }
 
 // The events with a chain of steps to s.

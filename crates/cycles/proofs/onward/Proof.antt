@@ -1,4 +1,3 @@
-use native.Mathlib.Omega.{arith}
 use borrow.Author.Needs.{needs}
 use Rattle.rows.specs.Members.{value}
 use Rattle.rows.proofs.Members.{first-in, taken-less}
@@ -7,10 +6,10 @@ use Rattle.cycles.proofs.onward.Statement.{statement}
 use Rattle.cycles.proofs.onward.Tie as tie
 
 abbrev Inv-loop : tie.InvT-loop
-Inv-loop t n from₀ r₀ from r = Going t from₀ from r
+Inv-loop t all from₀ r₀ from r = Going t from₀ from r
 
 abbrev μ-loop : tie.MeasureT-loop
-μ-loop t n from₀ r₀ from r = value from
+μ-loop t all from₀ r₀ from r = value from
 
 none-requires : tie.Need-none-requires Inv-loop μ-loop
 none-requires c κs = search needs
@@ -27,9 +26,7 @@ first-requires c κs = search needs
 row-requires : tie.Need-row-requires Inv-loop μ-loop
 row-requires c κs = let m = first-in _ (c .before .before .any .ensures .holds (c .before .if1 .taken)) _ (c .first .ensures) in
     let p = c .before .before .before .before .before .before .pre in
-    let l = p .2 _ (c .before .before .before .loop .inv .part _ m) in
-    let h = p .1 in
-    omega arith
+    p .0 _ (p .1 _ (c .before .before .before .loop .inv .part _ m))
 
 union-requires : tie.Need-union-requires Inv-loop μ-loop
 union-requires c κs = search needs
@@ -47,16 +44,13 @@ loop-again c = let b = c .before .before .before in
     let m = first-in _ (b .before .before .any .ensures .holds (b .before .if1 .taken)) _ (b .first .ensures) in
     go-more _ _ _ _ (b .before .before .before .loop .inv) _ m _ _ _ (c .before .before .row .ensures) (c .before .union .ensures) (c .without .ensures)
 
-full-requires : tie.Need-full-requires Inv-loop μ-loop
-full-requires c κs = search needs
-
 common-requires : tie.Need-common-requires Inv-loop μ-loop
 common-requires c κs = search needs
 
 returns : tie.Need-returns Inv-loop μ-loop
-returns c = let b = c .before .before in
+returns c = let b = c .before in
     let p = b .before .before .before .before .before .pre in
-    go-done _ _ _ (p .2) _ _ _ _ (b .before .before .loop .inv) (b .before .any .ensures .fails (b .if1 .left)) (c .before .full .ensures) (c .common .ensures)
+    go-done _ _ _ (p .1) _ _ _ (b .before .before .loop .inv) (b .before .any .ensures .fails (b .if1 .left)) (c .common .ensures)
 
 pub onward-spec : {M : Type 1} → statement M
 onward-spec =
@@ -73,6 +67,5 @@ onward-spec =
     without-requires
     loop-less
     loop-again
-    full-requires
     common-requires
     returns)
