@@ -2,7 +2,7 @@
 //! writes the records, each after its length in two bytes, and `check_cases
 //! expected` what is to be said of them.
 
-use plain::sample::{event, overwritten, s1, s2, torn, Record, STORE};
+use plain::sample::{event, overwritten, s1, s2, torn, Record, READ, STORE, WRITE};
 use plain::{check, order_table, EVIDENCE_ENTRIES};
 use std::io::Write;
 
@@ -17,6 +17,16 @@ fn stores(n: usize, g: usize) -> Record {
         store_order: numbers.clone(),
         locked_order: (0..g as u8).collect(),
         views: vec![numbers],
+        ..Record::default()
+    }
+}
+
+/// One instruction that reads and writes a register, in no order.
+fn unordered() -> Record {
+    Record {
+        processors: 1,
+        events: vec![event(0, READ, 0, 3, 0), event(0, WRITE, 0, 3, 1)],
+        views: vec![vec![0, 1]],
         ..Record::default()
     }
 }
@@ -39,12 +49,18 @@ fn cases() -> Vec<Vec<u8>> {
         stores(65, 0),
         stores(64, 16),
         stores(64, 17),
+        Record { causality: vec![(0, 1)], ..s1() },
+        Record { causality: vec![(1, 0), (0, 1)], ..torn() },
+        unordered(),
+        Record { locked: vec![(0, 7)], ..s1() },
+        Record { locked: vec![(0, 0), (1, 0), (0, 0)], ..s2() },
     ];
     let mut cases: Vec<Vec<u8>> = records.iter().map(Record::bytes).collect();
     let mut empty = vec![0; 18];
     empty[0] = 1;
     cases.push(empty);
     cases.push(vec![]);
+    cases.push([s1().bytes(), vec![0]].concat());
     cases
 }
 
