@@ -69,18 +69,18 @@ module _ (z : Execution) (p : ℕ) (t q : List ℕ) (c : Classes) (seen : Set) (
           let s = scene .places .pairs r k .0 (ir .says k (d .1)) .2 in (
             (w, place-sym (z .events .item r) (z .events .item k) s),
             ⊎-elim
-                (λ o. absurd (a .1 (ia .has k (scene .view .order r k sr (b .1) .1 o))))
+                (λ o. absurd (a .1 (ia .has k (scene .view .line .order r k sr (b .1) .1 o))))
                 (λ o. o)
-                (scene .view .total r k sr (b .1) (λ (e : r ≡ k). reads-not (z .events .item r) reads (rw e w))),
+                (scene .view .line .total r k sr (b .1) (λ (e : r ≡ k). reads-not (z .events .item r) reads (rw e w))),
           )
 
       has : (k : ℕ) → Precedes z p r k → In x k
       has k ((w, s), o) =
-          let n = scene .view .within k r o in
-          let lk = scene .view .sees .says k (n .0) .0 in
-          let lr = scene .view .sees .says r sr .0 in
+          let n = scene .view .line .within k r o in
+          let lk = scene .view .line .low k (n .0) in
+          let lr = scene .view .line .low r sr in
           let near = inear .has k (kinds .has k (lk, w), ir .has k (scene .places .pairs r k .1 (lr, lk, place-sym (z .events .item k) (z .events .item r) s))) in
-          ix .has k (ib .has k (near, n .0), λ a. scene .view .opposite k r o (scene .view .order r k sr (n .0) .0 (ia .says k a)))
+          ix .has k (ib .has k (near, n .0), λ a. scene .view .line .opposite k r o (scene .view .line .order r k sr (n .0) .0 (ia .says k a)))
 
 -- ---- what breaks the rule
 

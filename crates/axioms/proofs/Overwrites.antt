@@ -29,10 +29,6 @@ apart x y (inr w) (inl r) e = omega arith
 apart x y (inr w) (inr r) e = omega arith
 
 module _ (z : Execution) (p : ℕ) (t q : List ℕ) (c : Classes) (seen : Set) (s : Scene z p t q c seen) where
-  -- what is seen is an event
-  seen-low : (e : ℕ) → In seen e → e < z .events .size
-  seen-low e i = s .view .sees .says e i .0
-
   module _ (either : Set) (u : Is either (λ k. In (c .stores) k ⊎ In (c .puts) k)) where
     writes : (k : ℕ) → In either k → Writes (z .events .item k)
     writes k i = writes-is z c (s .classes) either u .says k i .1
@@ -50,29 +46,29 @@ module _ (z : Execution) (p : ℕ) (t q : List ℕ) (c : Classes) (seen : Set) (
           let (f, l) = im .says k b in
           let (e, h) = io .says k f in
           let (a, v) = il .says k l in
-          let after : ViewOrder z p w k = s .view .order w k iw v .0 (ib .says k a) in
+          let after : ViewOrder z p w k = s .view .line .order w k iw v .0 (ib .says k a) in
           let kind = writes k e in
           let other : k ≡ r → ⊥ = λ d. apart (z .events .item k) (z .events .item r) kind (s .paired w r o .1 .0) (ap (λ (e : ℕ). z .events .item e .kind) d) in (
             s .view .processor,
             o,
             (s .view .sees .says w iw, s .view .sees .says r ir),
-            (λ d. s .view .once w (rw d at after)),
+            (λ d. s .view .line .once w (rw d at after)),
             (kind, place-sym (z .events .item r) (z .events .item k) (s .places .pairs r k .0 (ip .says k h) .2)),
             after,
-            ⊎-elim (λ y. y) (λ y. absurd (g (iq .has k (s .view .order r k ir v .1 y)))) (s .view .total k r v ir other),
+            ⊎-elim (λ y. y) (λ y. absurd (g (iq .has k (s .view .line .order r k ir v .1 y)))) (s .view .line .total k r v ir other),
           )
 
       held : (k : ℕ) → Overwritten z p w r k → In out k
       unfolding Overwritten
       held k (hp, ho, hs, d, (kind, place), after, before) =
-          let v = s .view .within w k after .1 in
-          let l = seen-low k v in
+          let v = s .view .line .within w k after .1 in
+          let l = s .view .line .low k v in
           i .has k (
             im .has k (
-              io .has k (write-in k l kind, ip .has k (s .places .pairs r k .1 (seen-low r ir, l, place-sym (z .events .item k) (z .events .item r) place))),
-              il .has k (ib .has k (s .view .order w k iw v .1 after), v),
+              io .has k (write-in k l kind, ip .has k (s .places .pairs r k .1 (s .view .line .low r ir, l, place-sym (z .events .item k) (z .events .item r) place))),
+              il .has k (ib .has k (s .view .line .order w k iw v .1 after), v),
             ),
-            λ y. s .view .opposite k r before (s .view .order r k ir v .0 (iq .says k y)),
+            λ y. s .view .line .opposite k r before (s .view .line .order r k ir v .0 (iq .says k y)),
           )
 
       pub overwriting-is : Is out (Overwritten z p w r)

@@ -6,22 +6,27 @@ use mathlib.Core.List.{List}
 use Rattle.rows.specs.Members.{In, Is}
 use Rattle.rows.specs.Table.{HasRows, rel}
 use Rattle.rows.specs.declared.Set.{Set}
-use Rattle.record.specs.Execution.{Execution}
+use Rattle.record.specs.Execution.{Items, Execution}
 use Rattle.facts.specs.Facts.{Placed, Classed}
 use Rattle.facts.specs.declared.Classes.{Classes}
-use Rattle.model.specs.Model.{Source, Sees, ViewOrder}
+use Rattle.model.specs.Model.{Before, Source, Sees}
 use Rattle.model.specs.Rules.{WriteAndRead}
 
--- the table has p's view order among the events that p sees, and that order has each of them once
+-- the table has the list's order among the events of the set, each of which the list has once
+pub record Lined (z : Execution) (l : Items ℕ) (t : List ℕ) (all : Set) : Type 0 where
+  pub low : (a : ℕ) → In all a → a < z .events .size
+  pub rows : HasRows t 64
+  pub order : (a b : ℕ) → In all a → In all b → rel t a b ↔ Before l a b
+  pub within : (a b : ℕ) → Before l a b → In all a × In all b
+  pub once : (a : ℕ) → Before l a a → ⊥
+  pub opposite : (a b : ℕ) → Before l a b → Before l b a → ⊥
+  pub total : (a b : ℕ) → In all a → In all b → (a ≡ b → ⊥) → Before l a b ⊎ Before l b a
+
+-- the table has p's view order among the events that p sees
 pub record Viewed (z : Execution) (p : ℕ) (t : List ℕ) (seen : Set) : Type 0 where
   pub processor : p < z .processors
   pub sees : Is seen (Sees z p)
-  pub rows : HasRows t 64
-  pub order : (a b : ℕ) → In seen a → In seen b → rel t a b ↔ ViewOrder z p a b
-  pub within : (a b : ℕ) → ViewOrder z p a b → In seen a × In seen b
-  pub once : (a : ℕ) → ViewOrder z p a a → ⊥
-  pub opposite : (a b : ℕ) → ViewOrder z p a b → ViewOrder z p b a → ⊥
-  pub total : (a b : ℕ) → In seen a → In seen b → (a ≡ b → ⊥) → ViewOrder z p a b ⊎ ViewOrder z p b a
+  pub line : Lined z (z .view p) t seen
 
 -- a table of the section 8 pairs
 pub record Sources (z : Execution) (u : List ℕ) : Type 0 where

@@ -11,6 +11,7 @@ use Rattle.rows.specs.Table.{Adds}
 use Rattle.rows.proofs.Table.{zeros-rel}
 use Rattle.record.specs.Execution.{Execution}
 use Rattle.structure.specs.Structure.{structureRules}
+use Rattle.structure.proofs.Passing.{structure-numbered}
 use Rattle.facts.proofs.Counting.{blank-adds}
 use Rattle.model.specs.Model.{Source}
 use Rattle.model.specs.Rules.{witnessRules, orderRules, checkRules}
@@ -40,9 +41,6 @@ module _ (z : Execution) (b a : List ℕ) (n k : ℕ) (g : Given (Judged (witnes
   witness-on e = given-on (witnessRules z) (orderRules z) b a (witness-numbered z) n k e g
 
 -- ---- the rules about the structure, then those of the check
-pub structure-numbered : (z : Execution) → Numbered (structureRules z)
-structure-numbered z = (omega arith, (omega arith, (omega arith, (omega arith, (omega arith, tt)))))
-
 module _ (z : Execution) (b a : List ℕ) (n k : ℕ) (g : Given (Judged (structureRules z)) b a n k) where
   pub structure-stop : (n ≡ 0 → ⊥) → Given (Judged (structureRules z ++ checkRules z)) b a n k
   structure-stop h = given-stop (structureRules z) (checkRules z) b a n k h g

@@ -119,10 +119,13 @@ module _ (z : Execution) (f : Formed z) (p : ℕ) (h : p < z .processors) (t : L
     viewed = record {
       processor = h;
       sees = i;
-      rows = g .rows;
-      order = λ a b ma mb. (λ r. order a b ma mb (g .pairs a b .0 r), λ v. g .pairs a b .1 (inl v));
-      within = λ a b v. let s = before-ends (z .view p) a b v in (member a (s .0), member b (s .1));
-      once = view-once z k p h;
-      opposite = λ a b v w. view-once z k p h a (before-trans (z .view p) (view-once z k p h) a b a v w);
-      total = total;
+      line = record {
+        low = λ a m. i .says a m .0;
+        rows = g .rows;
+        order = λ a b ma mb. (λ r. order a b ma mb (g .pairs a b .0 r), λ v. g .pairs a b .1 (inl v));
+        within = λ a b v. let s = before-ends (z .view p) a b v in (member a (s .0), member b (s .1));
+        once = view-once z k p h;
+        opposite = λ a b v w. view-once z k p h a (before-trans (z .view p) (view-once z k p h) a b a v w);
+        total = total;
+      };
     }

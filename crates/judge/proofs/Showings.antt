@@ -2,14 +2,14 @@
 use Prim.Native.Nat.{ℕ, _<_, _≤_}
 use mathlib.Core.Path.{_≡_, refl}
 use mathlib.Core.Logic.{inl, inr}
-use mathlib.Core.List.{List, [], _∷_, _++_}
+use mathlib.Core.List.{List, [], _∷_}
 use native.Mathlib.Omega.{arith}
-use lib.ListN.{length, set, drop}
+use lib.ListN.{length, set}
 use Rattle.order.specs.Dictionary.{Firstly}
 use Rattle.order.specs.Least.{Hit}
 use Rattle.order.specs.Rule.{About, Any, rule}
 use Rattle.order.proofs.Dictionaries.{firstly-nil, firstly-cons}
-use Rattle.order.proofs.Searches.{then-found, last-found, not-found, hit-as, found-less, put-four}
+use Rattle.order.proofs.Searches.{then-found, last-found, not-found, hit-as, found-less, put-three, put-four}
 use Rattle.rows.specs.Members.{In, Is}
 use Rattle.rows.specs.declared.Set.{Set}
 use Rattle.rows.proofs.Members.{in-low}
@@ -17,10 +17,11 @@ use Rattle.record.specs.Execution.{Execution}
 use Rattle.record.specs.Words.{SameInstruction}
 use Rattle.facts.specs.declared.Classes.{Classes}
 use Rattle.model.specs.Model.{Reads, Locked, Source, ViewOrder}
-use Rattle.model.specs.Rules.{Overwritten, Unsourced, WrongInitial, Torn}
+use Rattle.model.specs.Rules.{Overwritten, Unsourced, WrongInitial, BreaksUp, Torn}
 use Rattle.axioms.specs.Scene.{Viewed, Scene}
 use Rattle.axioms.specs.Faults.{WrongFrom, Coded, Precedes}
 use Rattle.axioms.proofs.Initials.{initially-unique, wrong-unsourced}
+use Rattle.axioms.proofs.Tears.{broken-locked, broken-in, broken-is}
 use Rattle.judge.specs.Later.{laterRule, QuietAt, RuledAt}
 
 -- ---- a rule about p and three numbers below 64, searched for one after the other
@@ -64,7 +65,7 @@ module _ (z : Execution) (p : ℕ) (t q : List ℕ) (c : Classes) (seen : Set) (
 
   over-seen : (w r x : ℕ) → Overwritten z p w r x → In seen w × In seen r × In seen x
   unfolding Overwritten
-  over-seen w r x h = (s .view .sees .has w (h .2 .0), s .view .sees .has r (h .2 .1), s .view .within w x (h .5) .1)
+  over-seen w r x h = (s .view .sees .has w (h .2 .0), s .view .sees .has r (h .2 .1), s .view .line .within w x (h .5) .1)
 
   over-low : (w r x : ℕ) → Overwritten z p w r x → (w < 64) × (r < 64) × (x < 64)
   over-low w r x h = let (a, b, d) = over-seen w r x h in (in-low seen w a, in-low seen r b, in-low seen x d)
@@ -91,54 +92,41 @@ module _ (z : Execution) (p : ℕ) (t q : List ℕ) (c : Classes) (seen : Set) (
 
 -- ---- 27
 module _ (z : Execution) (p : ℕ) (t : List ℕ) (seen : Set) (s : Viewed z p t seen) where
-  torn-locked : (a x b : ℕ) → Torn z p a x b → Locked z a
-  unfolding Torn
-  torn-locked a x b h = h .1
-
-  torn-seen : (a x b : ℕ) → Torn z p a x b → In seen a × In seen x × In seen b
-  unfolding Torn
-  torn-seen a x b h = let (i, j) = s .within a x (h .4) in (i, j, s .within x b (h .5) .1)
-
   torn-low : (a x b : ℕ) → Torn z p a x b → (a < 64) × (x < 64) × (b < 64)
-  torn-low a x b h = let (i, j, k) = torn-seen a x b h in (in-low seen a i, in-low seen x j, in-low seen b k)
-
-  -- the parts that do not speak of b
-  torn-is : (a x b : ℕ) → Torn z p a x b → (out : Set)
-      → Is out (λ b. In seen b × (SameInstruction (z .events .item a) (z .events .item b) × ViewOrder z p x b)) → Is out (Torn z p a x)
   unfolding Torn
-  torn-is a x b h out i = record {
-    says = λ k m. let (v, (e, o)) = i .says k m in (h .0, h .1, e, h .3, h .4, o);
-    has = λ k m. i .has k (s .within x k (m .5) .1, (m .2, m .5));
-  }
+  torn-low a x b h = let (i, j, k) = broken-in z (z .view p) t seen (s .line) a x b (h .1) in (in-low seen a i, in-low seen x j, in-low seen b k)
 
-  module _ (a : ℕ) (h : Hit 64 (λ k. Any 2 (Torn z p k)) a) where
+  module _ (a : ℕ) (h : Hit 64 (λ k. Any 2 (BreaksUp z (z .view p) k)) a) where
+    first : Hit 64 (λ k. Any 2 (Torn z p k)) a
+    unfolding Torn
+    first = hit-as _ _ 64 a (λ k (x, (b, q)). (x, (b, (s .processor, q)))) (λ k (x, (b, q)). (x, (b, q .1))) h
+
     pub torn-quiet : (ev : List ℕ) → a ≡ 64 → RuledAt (laterRule z 2) p ev ev 0
-    torn-quiet = three-quiet 27 (Torn z) p torn-low a h
+    torn-quiet = three-quiet 27 (Torn z) p torn-low a first
 
-    module _ (g : a ≡ 64 → ⊥) (x : ℕ) (f : Locked z a → In seen a → Hit 64 (λ k. Any 1 (Torn z p a k)) x) where
+    module _ (g : a ≡ 64 → ⊥) (x : ℕ) (f : Locked z a → In seen a → Hit 64 (λ k. Any 1 (BreaksUp z (z .view p) a k)) x) where
       second : Hit 64 (λ k. Any 1 (Torn z p a k)) x
-      second = let (y, (b, k)) = three-some 27 (Torn z) p torn-low a h g in f (torn-locked a y b k) (torn-seen a y b k .0)
+      unfolding Torn
+      second =
+          let (y, (b, (n, k))) = three-some 27 (Torn z) p torn-low a first g in
+          let i = broken-in z (z .view p) t seen (s .line) a y b k .0 in
+          hit-as _ _ 64 x (λ k (b, q). (b, (s .processor, q))) (λ k (b, q). (b, q .1)) (f (broken-locked z (z .view p) t seen (s .line) a y b k) i)
 
       pub torn-second : x < 64
-      torn-second = three-second 27 (Torn z) p torn-low a h g x second
+      torn-second = three-second 27 (Torn z) p torn-low a first g x second
 
       pub torn-shown : (out : Set)
           → (Locked z a → In seen a → In seen x → Is out (λ b. In seen b × (SameInstruction (z .events .item a) (z .events .item b) × ViewOrder z p x b)))
           → (b : ℕ) → Hit 64 (In out) b → (ev : List ℕ) → 4 ≤ length ev → RuledAt (laterRule z 2) p ev (set (set (set (set ev 0 p) 1 a) 2 x) 3 b) 4
+      unfolding Torn
       torn-shown out i b hb =
-          let (k, o) = three-one 27 (Torn z) p torn-low a h g x second in
-          let (m, n, l) = torn-seen a x k o in
-          let j = torn-is a x k o out (i (torn-locked a x k o) m n) in
-          three-shown 27 (Torn z) p torn-low a h g x second b (hit-as (In out) (Torn z p a x) 64 b (j .says) (j .has) hb)
+          let (k, (r, o)) = three-one 27 (Torn z) p torn-low a first g x second in
+          let (m, n, l) = broken-in z (z .view p) t seen (s .line) a x k o in
+          let j = broken-is z (z .view p) t seen (s .line) a x k o out (i (broken-locked z (z .view p) t seen (s .line) a x k o) m n) in
+          three-shown 27 (Torn z) p torn-low a first g x second b
+          (hit-as (In out) (Torn z p a x) 64 b (λ e q. (s .processor, j .says e q)) (λ e q. j .has e (q .1)) hb)
 
 -- ---- 26
-
--- entries written at the front of a buffer
-put-three : (x y z : ℕ) (l : List ℕ) → 3 ≤ length l → set (set (set l 0 x) 1 y) 2 z ≡ (x ∷ y ∷ z ∷ []) ++ drop 3 l
-put-three x y z [] h = absurd (omega arith)
-put-three x y z (a ∷ []) h = absurd (omega arith)
-put-three x y z (a ∷ b ∷ []) h = absurd (omega arith)
-put-three x y z (a ∷ b ∷ c ∷ l) h = refl
 
 module _ (z : Execution) (p r : ℕ) where
   -- a code below r's own breaks nothing

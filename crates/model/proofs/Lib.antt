@@ -1,3 +1,4 @@
+pub mod Agreeing
 pub mod Demand2
 pub mod Cycles
 pub mod Decisions

@@ -13,7 +13,7 @@ use Rattle.record.specs.Formed.{Formed}
 use Rattle.record.specs.Words.{OfLock}
 use Rattle.model.specs.Hol.{union, strict, happens-before, check-causality, check-atomicity}
 use Rattle.model.specs.Model.{Locked, OrderFor}
-use Rattle.model.specs.Rules.{Torn}
+use Rattle.model.specs.Rules.{BreaksUp, Torn}
 use Rattle.model.specs.Says.{structureOf, witnessOf}
 use Rattle.model.proofs.Cycles.{acyclic-not, not-acyclic}
 use Rattle.model.proofs.Decisions.{certain, dec-instruction}
@@ -49,7 +49,7 @@ module _ (z : Execution) (f : Formed z) (v : Viewed z) where
 
   -- 27
   pub kept-atomicity : Kept (rule 27 4 (Torn z)) → check-atomicity (structureOf z) (witnessOf z .vo)
-  unfolding Torn Locked
+  unfolding Torn BreaksUp Locked
   kept-atomicity k p h i l a b (ha, oa) (hb, ob) u x ax xb = go (ℕ-discrete a x) (ℕ-discrete x b)
     where
       go : Dec (a ≡ x) → Dec (x ≡ b) → OfLock z i x
@@ -58,18 +58,14 @@ module _ (z : Execution) (f : Formed z) (v : Viewed z) where
       go (no n) (no m) =
           let same = certain (dec-instruction (z .events .item a) (z .events .item x)) (λ s. k (p ∷ a ∷ x ∷ b ∷ []) (
             h,
-            (i, l, oa),
-            (oa .0 ∙ sym (ob .0), oa .1 ∙ sym (ob .1)),
-            s,
-            upto-before _ a x (ax .1) n,
-            upto-before _ x b (xb .1) m,
+            ((i, l, oa), (oa .0 ∙ sym (ob .0), oa .1 ∙ sym (ob .1)), s, upto-before _ a x (ax .1) n, upto-before _ x b (xb .1) m),
           )) in
           (v p h .due x (upto-ends _ a x (ax .1) .1) .0, (sym (same .0) ∙ oa .0, sym (same .1) ∙ oa .1))
 
   pub atomicity-kept : check-atomicity (structureOf z) (witnessOf z .vo) → Kept (rule 27 4 (Torn z))
-  unfolding Torn Locked
+  unfolding Torn BreaksUp Locked
   atomicity-kept c w q =
-      let (p, (a, (x, (b, (h, (i, l, oa), same, other, ax, xb))))) = of-any 4 (Torn z) w q in
+      let (p, (a, (x, (b, (h, ((i, l, oa), same, other, ax, xb)))))) = of-any 4 (Torn z) w q in
       let ha = v p h .due a (before-ends _ a x ax .0) .0 in
       let hb = v p h .due b (before-ends _ x b xb .1) .0 in
       let ab = before-trans _ (v p h .single) a x b ax xb in

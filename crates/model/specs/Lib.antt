@@ -1,3 +1,4 @@
+pub mod Agree
 pub mod Demand2
 pub mod Hol
 pub mod Model

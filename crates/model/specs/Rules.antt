@@ -82,15 +82,18 @@ WrongInitial z (p ∷ []) = ⊥
 WrongInitial z (p ∷ r ∷ []) = ⊥
 WrongInitial z (p ∷ r ∷ code ∷ x ∷ y ∷ w) = ⊥
 
--- 27: x, not of the locked instruction of a and b, stands after a and before b in p's view
-unfoldable pub Torn : Execution → ℕ → ℕ → ℕ → ℕ → Type 0
-Torn z p a x b =
-    (p < z .processors)
-    × Locked z a
+-- x, not of the locked instruction of a and b, stands after a and before b in the list
+unfoldable pub BreaksUp : Execution → Items ℕ → ℕ → ℕ → ℕ → Type 0
+BreaksUp z l a x b =
+    Locked z a
     × SameInstruction (z .events .item a) (z .events .item b)
     × (SameInstruction (z .events .item a) (z .events .item x) → ⊥)
-    × ViewOrder z p a x
-    × ViewOrder z p x b
+    × Before l a x
+    × Before l x b
+
+-- 27: x, not of the locked instruction of a and b, stands after a and before b in p's view
+unfoldable pub Torn : Execution → ℕ → ℕ → ℕ → ℕ → Type 0
+Torn z p a x b = (p < z .processors) × BreaksUp z (z .view p) a x b
 
 -- the rules about the lists of the witness
 abbrev pub witnessRules : Execution → List Rule

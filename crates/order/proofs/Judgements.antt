@@ -1,5 +1,5 @@
 -- The judgement of a list of rules: two that it allows are one, it is 0 exactly if every rule is kept, and it is made rule after rule.
-use Prim.Native.Nat.{ℕ, _+_, _<_}
+use Prim.Native.Nat.{ℕ, _<_}
 use mathlib.Core.Path.{_≡_, refl, sym, ap, ap₂, _∙_, subst}
 use mathlib.Core.Logic.{inl, inr}
 use mathlib.Core.List.{List, [], _∷_, _++_}

@@ -1,7 +1,7 @@
 -- A search below n, number by number, and how such searches nest.
 use Prim.Native.Nat.{ℕ, zero, suc, _+_, _<_, _≤_}
 use mathlib.Core.Path.{_≡_, refl}
-use mathlib.Core.Logic.{_⊎_, inl, inr, ⊎-elim}
+use mathlib.Core.Logic.{inl, inr, ⊎-elim}
 use mathlib.Core.List.{List, [], _∷_, _++_}
 use lib.ListN.{length, set, drop}
 use native.Mathlib.Decide.{decLt}
@@ -69,6 +69,18 @@ rule-none a n j P r b f h l = inl (not-found n j P r f h l, refl, refl)
 pub rule-found : (a n : ℕ) (P : About n) (w b c : List ℕ) (k : ℕ) → Firstly (Of n P) w → 0 < k → Written w b c k → Ruled (rule a n P) b c k
 rule-found a n P w b c k f l h = inr (w, (w, f, refl), l, h)
 
+-- P holds of any n numbers of which Q holds
+abbrev pub From : (n : ℕ) → About n → About n → Type 0
+From zero P Q = Q → P
+From (suc n) P Q = (k : ℕ) → From n (P k) (Q k)
+
+-- so where P breaks no rule, Q breaks none
+pub kept-from : (n : ℕ) (P Q : About n) → From n P Q → ((w : List ℕ) → Of n P w → ⊥) → (w : List ℕ) → Of n Q w → ⊥
+kept-from zero P Q f k [] q = k [] (f q)
+kept-from zero P Q f k (a ∷ w) q = q
+kept-from (suc n) P Q f k [] q = q
+kept-from (suc n) P Q f k (a ∷ w) q = kept-from n (P a) (Q a) (f a) (λ v. k (a ∷ v)) w q
+
 -- entries written at the front of a buffer
 pub put-one : (x : ℕ) (l : List ℕ) → 1 ≤ length l → set l 0 x ≡ (x ∷ []) ++ drop 1 l
 put-one x [] h = absurd (omega arith)
@@ -78,6 +90,12 @@ pub put-two : (x y : ℕ) (l : List ℕ) → 2 ≤ length l → set (set l 0 x) 
 put-two x y [] h = absurd (omega arith)
 put-two x y (a ∷ []) h = absurd (omega arith)
 put-two x y (a ∷ b ∷ l) h = refl
+
+pub put-three : (x y z : ℕ) (l : List ℕ) → 3 ≤ length l → set (set (set l 0 x) 1 y) 2 z ≡ (x ∷ y ∷ z ∷ []) ++ drop 3 l
+put-three x y z [] h = absurd (omega arith)
+put-three x y z (a ∷ []) h = absurd (omega arith)
+put-three x y z (a ∷ b ∷ []) h = absurd (omega arith)
+put-three x y z (a ∷ b ∷ c ∷ l) h = refl
 
 pub put-four : (x y z w : ℕ) (l : List ℕ) → 4 ≤ length l → set (set (set (set l 0 x) 1 y) 2 z) 3 w ≡ (x ∷ y ∷ z ∷ w ∷ []) ++ drop 4 l
 put-four x y z w [] h = absurd (omega arith)

@@ -2,8 +2,8 @@
 use Prim.Native.Nat.{ℕ, _<_}
 use mathlib.Core.Path.{_≡_, refl, sym}
 use mathlib.Core.Logic.{_⊎_, inl, inr}
-use mathlib.Core.List.{List, [], _∷_}
 use native.Mathlib.Omega.{arith}
+use mathlib.Core.List.{List, [], _∷_}
 use Rattle.order.specs.Relation.{Trail, Cyclic}
 use Rattle.order.specs.Rule.{Kept, AllKept, cyclesRule}
 use Rattle.order.proofs.Rules.{cycles-kept, kept-cycles, cyclic-as}
@@ -36,7 +36,7 @@ module _ (z : Execution) (l : List ℕ) where
   unfolding Locked
   locked-was e q = q
 
-  abbrev Given : Execution → ℕ → ℕ → Type 0
+  abbrev pub Given : Execution → ℕ → ℕ → Type 0
   Given x a b = Causes x a b ⊎ Preserved x a b
 
   given-was : (a b : ℕ) → Given (readOff z l) a b → Given z a b
@@ -68,7 +68,7 @@ module _ (z : Execution) (l : List ℕ) where
     unfolding Causes Joining
     cause-same a b (i, h, (d, e)) = certain (dec-instruction (event z a) (event z b)) (λ g. s .0 (i ∷ []) (h, λ q. g (rw (d, e) at q))) .0
 
-    given-apart : (a b : ℕ) → Given z a b → Apart a b
+    pub given-apart : (a b : ℕ) → Given z a b → Apart a b
     given-apart a b (inl q) = record {
       from = cause-low a b q .0;
       to = cause-low a b q .1;

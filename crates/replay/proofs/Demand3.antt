@@ -8,12 +8,12 @@ use Rattle.order.proofs.Searches.{of-any}
 use Rattle.record.specs.Execution.{Execution}
 use Rattle.record.specs.Formed.{Formed}
 use Rattle.structure.specs.Structure.{structureRules}
-use Rattle.model.specs.Rules.{WrongStore, WrongLock, Torn, checkRules}
+use Rattle.model.specs.Rules.{WrongStore, WrongLock, BreaksUp, Torn, checkRules}
 use Rattle.model.proofs.Lists.{Proper, proper, misplaced-not}
 use Rattle.model.proofs.Sources.{kept-fitting, fitting-kept}
 use Rattle.model.proofs.Views.{viewed-kept}
 use Rattle.replay.specs.Demand3.{Demand3, BreaksSaid}
-use Rattle.replay.specs.Sequence.{steps, WrongEvent, BrokenUp, Reversed, Differs, sequenceRules, stepRules}
+use Rattle.replay.specs.Sequence.{steps, WrongEvent, Reversed, Differs, onceRules, sequenceRules, stepRules}
 use Rattle.replay.specs.ReadOff.{event, readOff}
 use Rattle.replay.proofs.Along.{view-along, locked-was, along-kept, kept-along}
 use Rattle.replay.proofs.Locking.{locks-proper}
@@ -21,11 +21,14 @@ use Rattle.replay.proofs.Picking.{picked-proper}
 use Rattle.replay.proofs.Reading.{overwritten-kept, held-fitting, held-initial, holding}
 use Rattle.replay.proofs.Tests.{sees-decides, store-decides}
 
+-- each event stands once
+pub sequence-proper : (z : Execution) (l : List ℕ) → AllKept (onceRules z l) → Proper (steps l) (λ e. e < z .events .size)
+unfolding WrongEvent
+sequence-proper z l k = proper _ _ (λ e. decLt _ _) (λ e q. k .1 .1 .0 (e ∷ []) q)
+
 module _ (z : Execution) (f : Formed z) (s : AllKept (structureRules z)) (l : List ℕ) (k : AllKept (sequenceRules z l)) where
-  -- each event stands once
-  full : Proper (steps l) (λ e. e < z .events .size)
-  unfolding WrongEvent
-  full = proper _ _ (λ e. decLt _ _) (λ e q. k .1 .1 .0 (e ∷ []) q)
+  pub full : Proper (steps l) (λ e. e < z .events .size)
+  full = sequence-proper z l (k .0, (k .1 .0, (k .1 .1 .0, tt)))
 
   stores-kept : Kept (rule 21 1 (WrongStore (readOff z l)))
   unfolding WrongStore
@@ -39,9 +42,9 @@ module _ (z : Execution) (f : Formed z) (s : AllKept (structureRules z)) (l : Li
 
   -- a view that is torn is a locked instruction that is broken up
   torn-kept : Kept (rule 27 4 (Torn (readOff z l)))
-  unfolding Torn BrokenUp
+  unfolding Torn BreaksUp
   torn-kept w q =
-      let (p, (a, (x, (b, (h, c, same, other, ax, xb))))) = of-any 4 (Torn (readOff z l)) w q in
+      let (p, (a, (x, (b, (h, (c, same, other, ax, xb)))))) = of-any 4 (Torn (readOff z l)) w q in
       k .1 .1 .1 .0 (a ∷ x ∷ b ∷ []) (locked-was z l a c, same, other, view-along z l p a x ax, view-along z l p x b xb)
 
   pub steps-check : AllKept (stepRules z l) → AllKept (checkRules (readOff z l))

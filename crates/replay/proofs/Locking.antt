@@ -15,6 +15,7 @@ use Rattle.record.specs.Execution.{Execution}
 use Rattle.record.specs.Words.{Belongs, OfLock}
 use Rattle.structure.specs.Structure.{Eventless, Repeated}
 use Rattle.model.specs.Model.{Locked, Before, LockedOrder}
+use Rattle.model.specs.Rules.{BreaksUp}
 use Rattle.model.proofs.Lists.{Proper, before-ends}
 use Rattle.replay.specs.Sequence.{steps, BrokenUp}
 use Rattle.replay.specs.ReadOff.{choose, event, ofEntry, anyOf, entriesAt, locksFrom, readOff}
@@ -31,8 +32,18 @@ module _ (z : Execution) (l : List ℕ) where
   Names i e = Belongs (event z e) (z .locks .item i)
 
   -- that of the event at place k
-  abbrev Of : ℕ → ℕ → Type 0
+  abbrev pub Of : ℕ → ℕ → Type 0
   Of i k = Names i (at k)
+
+  -- entries that share an event are one
+  pub shared : ((i : ℕ) → Repeated z i → ⊥) → (i j e : ℕ) → i < z .locks .size → j < z .locks .size → Names i e → Names j e → i ≡ j
+  unfolding Repeated
+  shared repeats i j e h g (p, q) (r, s) = go (decLt i j) (decLt j i)
+    where
+      go : Dec (i < j) → Dec (j < i) → i ≡ j
+      go (yes n) d = absurd (repeats j (g, (i, n, ap₂ (λ (p a : ℕ). record { processor = p; index = a }) (sym p ∙ r) (sym q ∙ s))))
+      go (no n) (yes m) = absurd (repeats i (h, (j, m, ap₂ (λ (p a : ℕ). record { processor = p; index = a }) (sym r ∙ p) (sym s ∙ q))))
+      go (no n) (no m) = omega arith
 
   any-decides : (i c : ℕ) (e : List ℕ) → Past at c e → Decides (anyOf z i e) (Some c (Of i))
   unfolding anyOf
@@ -52,7 +63,7 @@ module _ (z : Execution) (l : List ℕ) where
 
   -- the entries whose first event stands at place c
   module _ (c x : ℕ) (e : List ℕ) (p : Past at c e) (q : at c ≡ x) where
-    first-decides : (i : ℕ) → Decides (ofEntry z i x && not (anyOf z i e)) (Least (Of i) c)
+    pub first-decides : (i : ℕ) → Decides (ofEntry z i x && not (anyOf z i e)) (Least (Of i) c)
     first-decides i =
         by-as _
         (λ (b, f). (subst (Names i) (sym q) b, λ k h o. f (k, h, o)))
@@ -163,24 +174,14 @@ module _ (z : Execution) (l : List ℕ) where
         single i (k, m, u, v, inr (d, g)) = omega arith
 
     module _ (repeats : (i : ℕ) → Repeated z i → ⊥) (unbroken : (a x b : ℕ) → BrokenUp z l a x b → ⊥) where
-      -- entries that share an event are one
-      shared : (i j c : ℕ) → i < z .locks .size → j < z .locks .size → Of i c → Of j c → i ≡ j
-      unfolding Repeated
-      shared i j c h g (p, q) (r, s) = go (decLt i j) (decLt j i)
-        where
-          go : Dec (i < j) → Dec (j < i) → i ≡ j
-          go (yes n) d = absurd (repeats j (g, (i, n, ap₂ (λ (p a : ℕ). record { processor = p; index = a }) (sym p ∙ r) (sym q ∙ s))))
-          go (no n) (yes m) = absurd (repeats i (h, (j, m, ap₂ (λ (p a : ℕ). record { processor = p; index = a }) (sym r ∙ p) (sym s ∙ q))))
-          go (no n) (no m) = omega arith
-
       -- the events of an entry stand together: those of i ahead of those of j, if its first does
       apart : (i j k m a b : ℕ) → i < z .locks .size → j < z .locks .size → Least (Of i) k → Least (Of j) m → k < m → OfLock z i a → OfLock z j b
           → Before (steps l) a b
-      unfolding BrokenUp Locked
+      unfolding BreaksUp Locked
       apart i j k m a b hi hj u v o (ha, oa) (hb, ob) = go (full .stands a ha) (full .stands b hb)
         where
           never : (c : ℕ) → Of i c → Of j c → ⊥
-          never c p q = let e : j ≡ i = sym (shared i j c hi hj p q) in let d = least-unique (Of i) k m u (subst (λ (n : ℕ). Least (Of n) m) e v) in omega arith
+          never c p q = let e : j ≡ i = sym (shared repeats i j (at c) hi hj p q) in let d = least-unique (Of i) k m u (subst (λ (n : ℕ). Least (Of n) m) e v) in omega arith
 
           of : (n y c : ℕ) → at c ≡ y → Names n y → Of n c
           of n y c e p = subst (Names n) (sym e) p
@@ -217,4 +218,4 @@ module _ (z : Execution) (l : List ℕ) where
               by : Sooner i j → Before (steps l) a b
               by (k, m, u, v, inl g) = apart i j k m a b hi hj u v g p q
               by (k, m, u, v, inr (d, g)) =
-                  let e = shared i j k hi hj (u .0) (subst (Of j) (sym d) (v .0)) in absurd (omega arith)
+                  let e = shared repeats i j (at k) hi hj (u .0) (subst (Of j) (sym d) (v .0)) in absurd (omega arith)

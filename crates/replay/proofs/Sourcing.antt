@@ -32,10 +32,10 @@ module _ (z : Execution) (l : List ℕ) where
       go (no m) (no n) = omega arith
 
   -- the last write, or there is none
-  abbrev Latest : ℕ → ℕ → List ℕ → Type 0
+  abbrev pub Latest : ℕ → ℕ → List ℕ → Type 0
   Latest r i w = ((j : ℕ) × LastWrite z l i r j × (w ≡ at j ∷ [])) ⊎ (None i (λ j. WritesPlace z (at j) r) × (w ≡ []))
 
-  last-writer : (r i : ℕ) (e : List ℕ) → Past at i e → Latest r i (lastWriter z e r)
+  pub last-writer : (r i : ℕ) (e : List ℕ) → Past at i e → Latest r i (lastWriter z e r)
   unfolding lastWriter
   last-writer r i [] p = inr (λ k h q. omega arith, refl)
   last-writer r i (x ∷ e) (k, n, q, p) = go (last-writer r k e p) _ (writes-decides z x r)

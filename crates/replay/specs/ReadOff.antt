@@ -71,6 +71,14 @@ module _ (z : Execution) where
   locksFrom earlier [] = []
   locksFrom earlier (e ∷ l) = entriesAt (z .locks .size) earlier e ++ locksFrom (e ∷ earlier) l
 
+  -- section 6: the stores in list order
+  abbrev pub storesOf : List ℕ → List ℕ
+  storesOf l = picked (λ e. isStore (event e)) l
+
+  -- section 9: what p sees, in list order
+  abbrev pub viewOf : ℕ → List ℕ → List ℕ
+  viewOf p l = picked (λ e. eqb (event e .processor) p || isStore (event e)) l
+
   -- sections 0 to 5 as they are, the witness from the list
   abbrev pub readOff : List ℕ → Execution
   readOff l = record {
@@ -79,8 +87,8 @@ module _ (z : Execution) where
     causes = z .causes;
     locks = z .locks;
     initials = z .initials;
-    stores = steps (picked (λ e. isStore (event e)) l);
+    stores = steps (storesOf l);
     lockOrder = steps (locksFrom [] l);
     sources = itemsOf (record { from = 0; to = 0 }) (sourcesFrom [] l);
-    view = λ p. steps (picked (λ e. eqb (event e .processor) p || isStore (event e)) l);
+    view = λ p. steps (viewOf p l);
   }

@@ -7,9 +7,9 @@ use lib.ListN.{length, getD}
 use Rattle.order.specs.Least.{None}
 use Rattle.order.specs.Rule.{Rule, rule, entryRule}
 use Rattle.record.specs.Execution.{Items, Execution}
-use Rattle.record.specs.Words.{SameInstruction, Causes}
-use Rattle.model.specs.Model.{Reads, Locked, Before, Preserved}
-use Rattle.model.specs.Rules.{Misplaced, WritesPlace, Initially}
+use Rattle.record.specs.Words.{Causes}
+use Rattle.model.specs.Model.{Reads, Before, Preserved}
+use Rattle.model.specs.Rules.{Misplaced, WritesPlace, Initially, BreaksUp}
 
 abbrev pub itemsOf : {A : Type 0} → A → List A → Items A
 itemsOf d l = record { size = length l; item = λ i. getD l i d }
@@ -42,13 +42,8 @@ unfoldable pub WrongEvent : Execution → List ℕ → ℕ → Type 0
 WrongEvent z l e = Misplaced (e < z .events .size) (steps l) e
 
 -- 31: x stands after a and before b of one locked instruction, x not of it
-unfoldable pub BrokenUp : Execution → List ℕ → ℕ → ℕ → ℕ → Type 0
-BrokenUp z l a x b =
-    Locked z a
-    × SameInstruction (z .events .item a) (z .events .item b)
-    × (SameInstruction (z .events .item a) (z .events .item x) → ⊥)
-    × Before (steps l) a x
-    × Before (steps l) x b
+abbrev pub BrokenUp : Execution → List ℕ → ℕ → ℕ → ℕ → Type 0
+BrokenUp z l = BreaksUp z (steps l)
 
 -- 32: a before b by section 3 or preserved order, b earlier in the list
 unfoldable pub Reversed : Execution → List ℕ → ℕ → ℕ → Type 0

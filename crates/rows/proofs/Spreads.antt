@@ -1,12 +1,12 @@
 -- A loop that takes the members of a set out, one by one, and adds the steps of each to a table.
 use Prim.Native.Nat.{ℕ}
 use mathlib.Core.Path.{_≡_, refl}
-use mathlib.Core.Logic.{_⊎_, inl, inr, ⊎-elim}
+use mathlib.Core.Logic.{_⊎_, inl, inr}
 use mathlib.Core.List.{List}
 use native.Mathlib.Decide.{ℕ-discrete}
 use Rattle.order.specs.Relation.{Rel}
 use Rattle.rows.specs.Members.{In, Is, Member}
-use Rattle.rows.specs.Table.{rel, Adds}
+use Rattle.rows.specs.Table.{Adds}
 use Rattle.rows.specs.declared.Set.{Set}
 use Rattle.rows.proofs.Members.{dec-in}
 use Rattle.rows.proofs.Table.{adds-none, adds-as, adds-then}

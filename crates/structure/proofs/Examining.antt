@@ -1,7 +1,9 @@
 -- Reading, then the rules.
 use Prim.Native.Nat.{ℕ, _≤_}
 use mathlib.Core.Path.{_≡_, refl, sym, _∙_}
+use mathlib.Core.Logic.{inl, inr}
 use mathlib.Core.List.{List, [], _∷_, _++_}
+use native.Mathlib.Omega.{arith}
 use lib.ListN.{length, set}
 use Rattle.order.specs.Rule.{Rule, Judged}
 use Rattle.order.specs.Evidence.{Given}
@@ -13,7 +15,7 @@ use Rattle.form.specs.declared.Step.{Step}
 use Rattle.form.specs.declared.Step.the-variants.{Next, Stop}
 use Rattle.record.specs.Says.{executionOf}
 use Rattle.structure.specs.Structure.{structureRules}
-use Rattle.structure.specs.Examined.{examinedBy, examination}
+use Rattle.structure.specs.Examined.{examinedBy, examination, Answered}
 
 module _ (s : List ℕ) (rules : List Rule) where
   pub examined-stop : (f : Fault) → whole s ≡ Stop f → (b : List ℕ) → 1 ≤ length b → Given (examination s rules) b (set b 0 (f .section)) (f .answer) 1
@@ -38,3 +40,15 @@ module _ (s : List ℕ) (rules : List Rule) where
   pub examine-unique : (before x y : List ℕ) (a b k l : ℕ) → Given (examination s rules) before x a k → Given (examination s rules) before y b l
       → (a ≡ b) × (k ≡ l) × (x ≡ y)
   examine-unique = given-unique (examination s rules) examination-unique
+
+  -- and so does the contract of an operation with a buffer for evidence
+  pub answered-unique : (before x y : List ℕ) (a b k l : ℕ) → Answered s rules before x a k → Answered s rules before y b l → (a ≡ b) × (k ≡ l) × (x ≡ y)
+  answered-unique before x y a b k l (inl p) (inl q) = (p .1 ∙ sym (q .1), p .2 ∙ sym (q .2), p .3 ∙ sym (q .3))
+  answered-unique before x y a b k l (inl p) (inr q) = let u = p .0 in let v = q .0 in absurd (omega arith)
+  answered-unique before x y a b k l (inr p) (inl q) = let u = p .0 in let v = q .0 in absurd (omega arith)
+  answered-unique before x y a b k l (inr p) (inr q) = examine-unique before x y a b k l (p .1) (q .1)
+
+  -- with a buffer that is long enough there is the judgement
+  pub answered-judged : (before after : List ℕ) (a k : ℕ) → 65 ≤ length before → Answered s rules before after a k → (e : List ℕ) × examination s rules a e
+  answered-judged before after a k h (inl p) = let l = p .0 in absurd (omega arith)
+  answered-judged before after a k h (inr p) = (p .1 .0, p .1 .1)

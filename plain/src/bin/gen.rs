@@ -180,8 +180,8 @@ fn vary_views(rng: &mut Random, bytes: &mut [u8]) {
 }
 
 /// A valid record of 64 events on four processors with eight locked
-/// instructions.
-fn valid64() -> Vec<u8> {
+/// instructions, and the sequence that it was run in.
+fn valid64() -> (Vec<u8>, Vec<u16>) {
     let mut rng = Random(2009);
     let mut record = program(&mut rng);
     let list = sequence(&mut rng, &record);
@@ -194,7 +194,7 @@ fn valid64() -> Vec<u8> {
     out.truncate(length);
     assert_eq!(answer(&out).0, 0);
     vary_views(&mut rng, &mut out);
-    out
+    (out, numbers)
 }
 
 /// A record whose shortest cycle has all 64 events. Processor 0 stores; an
@@ -222,7 +222,7 @@ fn cycle64() -> Vec<u8> {
 
 /// A record whose first byte is not the form's.
 fn refused() -> Vec<u8> {
-    let mut bytes = valid64();
+    let mut bytes = valid64().0;
     bytes[0] = 2;
     bytes
 }
@@ -236,10 +236,12 @@ fn main() {
     let records = [
         ("s1.bin", s1().bytes()),
         ("s2.bin", s2().bytes()),
-        ("valid64.bin", valid64()),
+        ("valid64.bin", valid64().0),
         ("refused.bin", refused()),
         ("cycle64.bin", cycle64()),
     ];
+    let list: Vec<u8> = valid64().1.iter().flat_map(|number| number.to_le_bytes()).collect();
+    std::fs::write(Path::new(&folder).join("valid64.list"), list).expect("the file can be written");
     for (name, bytes) in records {
         std::fs::write(Path::new(&folder).join(name), &bytes).expect("the file can be written");
         let (answered, evidence) = answer(&bytes);

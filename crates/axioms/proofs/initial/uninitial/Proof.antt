@@ -47,7 +47,7 @@ preceding-requires c κs = let f = c .before in
     let p = l .before .before .before .before .before .before .before .pre in
     let m = first-in _ (f .before .before .any .ensures .holds (f .before .if1 .taken)) _ (f .first .ensures) in
     let h = in-low _ _ m in
-    let t = p .0 .2 .1 .view .rows in
+    let t = p .0 .2 .1 .view .line .rows in
     let q = p .0 .2 .1 .places .rows in
     (omega arith, omega arith)
 

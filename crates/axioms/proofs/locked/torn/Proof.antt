@@ -4,26 +4,26 @@ use borrow.Author.Needs.{needs}
 use Rattle.order.specs.Rule.{Any}
 use Rattle.rows.specs.Members.{In, value}
 use Rattle.rows.proofs.Members.{in-low, first-in, taken-less}
-use Rattle.record.specs.Execution.{Execution}
+use Rattle.record.specs.Execution.{Items, Execution}
 use Rattle.facts.specs.Facts.{Mated}
-use Rattle.model.specs.Rules.{Torn}
-use Rattle.axioms.specs.Scene.{Viewed}
+use Rattle.model.specs.Rules.{BreaksUp}
+use Rattle.axioms.specs.Scene.{Lined}
 use Rattle.axioms.proofs.Seeking.{Seeking, seek-begin, seek-next, seek-found, seek-none}
 use Rattle.axioms.proofs.Tears.{torn-hit, torn-found, torn-not}
 use Rattle.axioms.proofs.locked.torn.Statement.{statement}
 use Rattle.axioms.proofs.locked.torn.Tie as tie
 
 abbrev Inv-loop : tie.InvT-loop
-Inv-loop t m seen from₀ from = (z : Execution) (p : ℕ) → Viewed z p t seen → Mated z m → Seeking (λ a. In from₀ a × Any 2 (Torn z p a)) from₀ from
+Inv-loop t m all from₀ from = (z : Execution) (l : Items ℕ) → Lined z l t all → Mated z m → Seeking (λ a. In from₀ a × Any 2 (BreaksUp z l a)) from₀ from
 
 abbrev μ-loop : tie.MeasureT-loop
-μ-loop t m seen from₀ from = value from
+μ-loop t m all from₀ from = value from
 
 common-requires : tie.Need-common-requires Inv-loop μ-loop
 common-requires c κs = search needs
 
 loop-holds : tie.Need-loop-holds Inv-loop μ-loop
-loop-holds c = λ z p v n. seek-begin _ _ (λ a q. q .0)
+loop-holds c = λ z line v n. seek-begin _ _ (λ a q. q .0)
 
 any-requires : tie.Need-any-requires Inv-loop μ-loop
 any-requires c κs = search needs
@@ -40,10 +40,10 @@ returns : tie.Need-returns Inv-loop μ-loop
 returns c = let f = c .before .before in
     let l = f .before .before .before in
     let m = first-in _ (f .before .before .any .ensures .holds (f .before .if1 .taken)) _ (f .first .ensures) in
-    λ z p v n i.
-    let h = l .loop .inv z p v n in
-    let q = torn-found z p _ _ v _ _ i (l .before .common .ensures) _ _ (c .before .torn-at .ensures z p v n) (h .part _ m) (c .if2 .taken) in
-    torn-hit z p _ _ v _ _ i (l .before .common .ensures) _ (seek-found _ _ _ h _ (f .first .ensures) q)
+    λ z line v n i.
+    let h = l .loop .inv z line v n in
+    let q = torn-found z line _ _ v _ _ i (l .before .common .ensures) _ _ (c .before .torn-at .ensures z line v n) (h .part _ m) (c .if2 .taken) in
+    torn-hit z line _ _ v _ _ i (l .before .common .ensures) _ (seek-found _ _ _ h _ (f .first .ensures) q)
 
 without-requires : tie.Need-without-requires Inv-loop μ-loop
 without-requires c κs = let f = c .before .before in
@@ -55,13 +55,13 @@ loop-less c = let f = c .before .before .before in
 
 loop-again : tie.Need-loop-again Inv-loop μ-loop
 loop-again c = let f = c .before .before .before in
-    λ z p v n.
-    seek-next _ _ _ (f .before .before .before .loop .inv z p v n) _ (torn-not z p _ _ v _ _ _ (c .before .before .torn-at .ensures z p v n) (c .before .if2 .left)) _ (c .without .ensures)
+    λ z line v n.
+    seek-next _ _ _ (f .before .before .before .loop .inv z line v n) _ (torn-not z line _ _ v _ _ _ (c .before .before .torn-at .ensures z line v n) (c .before .if2 .left)) _ (c .without .ensures)
 
 returns-2 : tie.Need-returns-2 Inv-loop μ-loop
 returns-2 c = let l = c .before .before in
-    λ z p v n i.
-    torn-hit z p _ _ v _ _ i (l .before .common .ensures) _ (seek-none _ _ _ (l .loop .inv z p v n) (c .before .any .ensures .fails (c .if1 .left)))
+    λ z line v n i.
+    torn-hit z line _ _ v _ _ i (l .before .common .ensures) _ (seek-none _ _ _ (l .loop .inv z line v n) (c .before .any .ensures .fails (c .if1 .left)))
 
 pub torn-spec : {M : Type 1} → statement M
 torn-spec =

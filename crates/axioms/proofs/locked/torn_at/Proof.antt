@@ -56,8 +56,8 @@ returns c = let f = c .before .before .before .before in
     let k = l .before in
     let m = first-in _ (f .before .before .any .ensures .holds (f .before .if1 .taken)) _ (f .first .ensures) in
     let r = split-tested _ _ _ _ _ _ (c .before .before .before .row3 .ensures) (c .before .before .minus2 .ensures) (l .loop .inv .part _ m) _ (c .before .any2 .ensures) in
-    λ z p v n lock ia.
-    by-yes (split-torn z p _ _ v _ n _ lock ia _ (k .before .before .before .before .row .ensures) _ _ _ (k .before .before .before .row2 .ensures) (k .before .before .common .ensures) (k .before .minus .ensures) _ (k .common2 .ensures) _ (r .holds (c .if2 .taken)))
+    λ z line v n lock ia.
+    by-yes (split-torn z line _ _ v _ n _ lock ia _ (k .before .before .before .before .row .ensures) _ _ _ (k .before .before .before .row2 .ensures) (k .before .before .common .ensures) (k .before .minus .ensures) _ (k .common2 .ensures) _ (r .holds (c .if2 .taken)))
 
 without-requires : tie.Need-without-requires Inv-loop μ-loop
 without-requires c κs = let f = c .before .before .before .before in
@@ -77,8 +77,8 @@ loop-again c = let f = c .before .before .before .before .before in
 returns-2 : tie.Need-returns-2 Inv-loop μ-loop
 returns-2 c = let l = c .before .before in
     let k = l .before in
-    λ z p v n lock ia.
-    by-no (λ q. let (b, s) = torn-split z p _ _ v _ n _ lock ia _ (k .before .before .before .before .row .ensures) _ _ _ (k .before .before .before .row2 .ensures) (k .before .before .common .ensures) (k .before .minus .ensures) _ (k .common2 .ensures) q in c .before .any .ensures .fails (c .if1 .left) (b, l .loop .inv .each b s))
+    λ z line v n lock ia.
+    by-no (λ q. let (b, s) = torn-split z line _ _ v _ n _ lock ia _ (k .before .before .before .before .row .ensures) _ _ _ (k .before .before .before .row2 .ensures) (k .before .before .common .ensures) (k .before .minus .ensures) _ (k .common2 .ensures) q in c .before .any .ensures .fails (c .if1 .left) (b, l .loop .inv .each b s))
 
 pub torn-at-spec : {M : Type 1} → statement M
 torn-at-spec =

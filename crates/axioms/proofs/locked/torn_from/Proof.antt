@@ -16,8 +16,8 @@ common-requires-2 : tie.Need-common-requires-2
 common-requires-2 c κs = search needs
 
 returns : tie.Need-returns
-returns c = λ z p v n lock ia ix.
-    torn-from-is z p _ _ v _ n _ lock ia _ (c .before .row2 .ensures) _ ix _ _ _ (c .before .before .before .row .ensures) (c .before .before .common .ensures) (c .common2 .ensures)
+returns c = λ z line v n lock ia ix.
+    torn-from-is z line _ _ v _ n _ lock ia _ (c .before .row2 .ensures) _ ix _ _ _ (c .before .before .before .row .ensures) (c .before .before .common .ensures) (c .common2 .ensures)
 
 pub torn-from-spec : {M : Type 1} → statement M
 torn-from-spec =

@@ -18,7 +18,7 @@ overwritten-from-requires c κs = let o = c .before in
     let h = o .overwritten .ensures z _ scene sources in
     let m = h .most in
     let g = c .if1 .left in
-    let t = scene .view .rows in
+    let t = scene .view .line .rows in
     let u = sources .rows in
     (t, scene .places .rows, omega arith, omega arith)
 
@@ -30,7 +30,7 @@ overwriting-requires c κs = let e = c .before in
     let h = o .overwritten .ensures z _ scene sources in
     let m = h .most in
     let g = e .if1 .left in
-    let t = scene .view .rows in
+    let t = scene .view .line .rows in
     let q = scene .places .rows in
     let r = over-second z _ _ _ _ _ scene _ h (e .if1 .left) _ (c .overwritten-from .ensures z _ scene sources) in
     (omega arith, omega arith, omega arith)

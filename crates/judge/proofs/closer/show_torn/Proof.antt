@@ -9,16 +9,16 @@ torn-requires : tie.Need-torn-requires
 torn-requires c κs = search needs
 
 returns : tie.Need-returns
-returns c = λ z view mated classed. torn-quiet z _ _ _ view _ (c .before .torn .ensures z _ view mated (classed .locked)) _ (c .if1 .taken)
+returns c = λ z view mated classed. torn-quiet z _ _ _ view _ (c .before .torn .ensures z _ (view .line) mated (classed .locked)) _ (c .if1 .taken)
 
 tearing-requires : tie.Need-tearing-requires
 tearing-requires c κs = let o = c .before in
     let a = o .before .before .before .before .before in
     let (z, (view, (mated, classed))) = a .pre .0 in
-    let h = o .torn .ensures z _ view mated (classed .locked) in
+    let h = o .torn .ensures z _ (view .line) mated (classed .locked) in
     let l = h .most in
     let g = c .if1 .left in
-    let t = view .rows in
+    let t = view .line .rows in
     let m = mated .rows in
     (t, omega arith, omega arith)
 
@@ -27,12 +27,12 @@ torn-from-requires c κs = let e = c .before in
     let o = e .before in
     let a = o .before .before .before .before .before in
     let (z, (view, (mated, classed))) = a .pre .0 in
-    let h = o .torn .ensures z _ view mated (classed .locked) in
+    let h = o .torn .ensures z _ (view .line) mated (classed .locked) in
     let l = h .most in
     let g = e .if1 .left in
-    let t = view .rows in
+    let t = view .line .rows in
     let m = mated .rows in
-    let x = torn-second z _ _ _ view _ h (e .if1 .left) _ (c .tearing .ensures z _ view mated) in
+    let x = torn-second z _ _ _ view _ h (e .if1 .left) _ (c .tearing .ensures z _ (view .line) mated) in
     (omega arith, omega arith)
 
 first-requires : tie.Need-first-requires
@@ -49,7 +49,7 @@ cast-ev-2 c = let e = c .before .before .before in
     let o = e .before in
     let a = o .before .before .before .before .before in
     let (z, (view, (mated, classed))) = a .pre .0 in
-    let h = o .torn .ensures z _ view mated (classed .locked) in
+    let h = o .torn .ensures z _ (view .line) mated (classed .locked) in
     let l = h .most in
     record { fits = omega arith }
 
@@ -62,8 +62,8 @@ cast-ev-3 c = let e = c .before .before .before in
     let o = e .before in
     let a = o .before .before .before .before .before in
     let (z, (view, (mated, classed))) = a .pre .0 in
-    let h = o .torn .ensures z _ view mated (classed .locked) in
-    let l = torn-second z _ _ _ view _ h (e .if1 .left) _ (c .before .before .tearing .ensures z _ view mated) in
+    let h = o .torn .ensures z _ (view .line) mated (classed .locked) in
+    let l = torn-second z _ _ _ view _ h (e .if1 .left) _ (c .before .before .tearing .ensures z _ (view .line) mated) in
     record { fits = omega arith }
 
 slice-write-ev-3 : tie.Need-slice-write-ev-3
@@ -86,7 +86,7 @@ returns-2 c = let f = c .before .before in
     let o = e .before in
     let a = o .before .before .before .before .before in
     let b = a .pre .2 in
-    λ z view mated classed. torn-shown z _ _ _ view _ (o .torn .ensures z _ view mated (classed .locked)) (e .if1 .left) _ (f .tearing .ensures z _ view mated) _ (c .before .torn-from .ensures z _ view mated) _ (c .first .ensures) (a .args .ev .now) (omega arith)
+    λ z view mated classed. torn-shown z _ _ _ view _ (o .torn .ensures z _ (view .line) mated (classed .locked)) (e .if1 .left) _ (f .tearing .ensures z _ (view .line) mated) _ (c .before .torn-from .ensures z _ (view .line) mated) _ (c .first .ensures) (a .args .ev .now) (omega arith)
 
 pub show-torn-spec : {M : Type 1} → statement M
 show-torn-spec =

@@ -74,7 +74,7 @@ preceding-requires c κs = let e = c .before .before in
     let h = o .uninitial .ensures _ scene in
     let m = h .most in
     let g = e .if1 .left in
-    let t = scene .view .rows in
+    let t = scene .view .line .rows in
     let q = scene .places .rows in
     (omega arith, omega arith)
 

@@ -2,7 +2,7 @@ use native.Mathlib.Omega.{arith}
 use borrow.Author.Needs.{needs}
 use Rattle.rows.proofs.Table.{zeros-rel}
 use Rattle.record.specs.Says.{executionOf}
-use Rattle.judge.proofs.Orderings.{structure-numbered}
+use Rattle.structure.proofs.Passing.{structure-numbered}
 use Rattle.judge.proofs.Tables.{judging-more, judging-then}
 use Rattle.judge.proofs.table.tabled_from_ten.Statement.{statement}
 use Rattle.judge.proofs.table.tabled_from_ten.Tie as tie
