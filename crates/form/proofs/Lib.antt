@@ -1,3 +1,4 @@
+pub mod Answers
 pub mod Branches
 pub mod Cases
 pub mod Flags

@@ -82,6 +82,21 @@ module _ (z : Execution) (l : List ℕ) where
       processor = p;
     }
 
+    -- 32 from 24
+    pub kept-along : Kept (cyclesRule 24 (z .processors) (OrderFor (readOff z l))) → (a b : ℕ) → Reversed z l a b → ⊥
+    unfolding Reversed
+    kept-along k a b (q, c) = go (given-apart a b q)
+      where
+        go : Apart a b → ⊥
+        go d =
+            kept-cycles 24 _ (OrderFor (readOff z l)) k (event z a .processor) (f .events .each a (d .from) .own) (
+              b ∷ a ∷ [],
+              (
+                inl (before-picked _ _ (sees-decides z (event z a .processor)) l b a c (inl (sym (d .processor))) (inl refl)),
+                inr (happens-given a b (given-is a b q)),
+              ),
+            )
+
     -- 24 from 32
     module _ (some : (i : ℕ) → Eventless z i → ⊥) (repeats : (i : ℕ) → Repeated z i → ⊥) (unbroken : (a x b : ℕ) → BrokenUp z l a x b → ⊥)
         (k : (a b : ℕ) → Reversed z l a b → ⊥) where
@@ -115,18 +130,3 @@ module _ (z : Execution) (l : List ℕ) where
 
       pub along-kept : Kept (cyclesRule 24 (z .processors) (OrderFor (readOff z l)))
       along-kept = cycles-kept 24 _ (OrderFor (readOff z l)) (λ p h c. acyclic (cyclic-as (OrderFor (readOff z l) p) (Before (steps l)) (order-along p) c))
-
-    -- 32 from 24
-    pub kept-along : Kept (cyclesRule 24 (z .processors) (OrderFor (readOff z l))) → (a b : ℕ) → Reversed z l a b → ⊥
-    unfolding Reversed
-    kept-along k a b (q, c) = go (given-apart a b q)
-      where
-        go : Apart a b → ⊥
-        go d =
-            kept-cycles 24 _ (OrderFor (readOff z l)) k (event z a .processor) (f .events .each a (d .from) .own) (
-              b ∷ a ∷ [],
-              (
-                inl (before-picked _ _ (sees-decides z (event z a .processor)) l b a c (inl (sym (d .processor))) (inl refl)),
-                inr (happens-given a b (given-is a b q)),
-              ),
-            )

@@ -1,0 +1,15 @@
+pub mod Blocks
+pub mod Bounds
+pub mod Demand3
+pub mod Entries
+pub mod Layouts
+pub mod Pairings
+pub mod Parts
+pub mod Pickings
+pub mod Prefixes
+pub mod Promises
+pub mod Puts
+pub mod RoundTrips
+pub mod Viewings
+pub mod Wholes
+pub mod Writing

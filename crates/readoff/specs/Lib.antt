@@ -1,0 +1,4 @@
+pub mod Bytes
+pub mod Promises
+pub mod Put
+pub mod Written
