@@ -22,7 +22,7 @@ use Rattle.readoff.specs.Bytes.{twoBytes, counted, pairs, views, witness
 use Rattle.readoff.proofs.Blocks.{count-back, counted-item, counted-block, locks-block, none, pairs-length, pairs-block, pairs-item}
 
 -- b is what r has from `at` on
-abbrev pub Rest : List ℕ → ℕ → List ℕ → Type 0
+abbrev Rest : List ℕ → ℕ → List ℕ → Type 0
 Rest r at b = (a : List ℕ) × (r ≡ a ++ b) × (at ≡ length a)
 
 module _ (r : List ℕ) (at : ℕ) where
@@ -82,13 +82,13 @@ views-next z l m p h = let (w, e) = views-first z l (suc m) p h in (w, e ∙ app
 
 -- what stands from each section on
 module _ (z : Execution) (l : List ℕ) where
-  abbrev pub fromViews : List ℕ
+  abbrev fromViews : List ℕ
   fromViews = twoBytes (z .processors) ++ views z l (z .processors)
 
-  abbrev pub fromSources : List ℕ
+  abbrev fromSources : List ℕ
   fromSources = (twoBytes (length (sourcesFrom z [] l)) ++ pairs (sourcesFrom z [] l)) ++ fromViews
 
-  abbrev pub fromLocks : List ℕ
+  abbrev fromLocks : List ℕ
   fromLocks = counted (locksFrom z [] l) ++ fromSources
 
 module _ (z : Execution) (l : List ℕ) (f : Formed (readOff z l)) (a r : List ℕ) (is : r ≡ a ++ witness z l) (six : start r 6 ≡ length a) where
@@ -105,28 +105,28 @@ module _ (z : Execution) (l : List ℕ) (f : Formed (readOff z l)) (a r : List �
   few-locks = let h = f .lockOrder .within in omega arith
 
   -- ---- where they stand
-  pub rest-6 : Rest r (start r 6) (counted (storesOf z l) ++ fromLocks z l)
+  rest-6 : Rest r (start r 6) (counted (storesOf z l) ++ fromLocks z l)
   rest-6 = (a, is, six)
 
-  pub start-7 : start r 7 ≡ start r 6 + 2 + length (storesOf z l)
+  start-7 : start r 7 ≡ start r 6 + 2 + length (storesOf z l)
   unfolding width
   start-7 = let e = start-next r 6 (length stores) _ (omega arith) (f .stores .within) rest-6 in omega arith
 
-  pub rest-7 : Rest r (start r 7) (counted (locksFrom z [] l) ++ fromSources z l)
+  rest-7 : Rest r (start r 7) (counted (locksFrom z [] l) ++ fromSources z l)
   rest-7 = rest-next r (start r 6) (counted stores) (fromLocks z l) (start r 7) (omega (arith, start-7)) rest-6
 
-  pub start-8 : start r 8 ≡ start r 7 + 2 + length (locksFrom z [] l)
+  start-8 : start r 8 ≡ start r 7 + 2 + length (locksFrom z [] l)
   unfolding width
   start-8 = let e = start-next r 7 (length locks) _ (omega arith) few-locks rest-7 in omega arith
 
-  pub rest-8 : Rest r (start r 8) ((twoBytes (length (sourcesFrom z [] l)) ++ pairs (sourcesFrom z [] l)) ++ fromViews z l)
+  rest-8 : Rest r (start r 8) ((twoBytes (length (sourcesFrom z [] l)) ++ pairs (sourcesFrom z [] l)) ++ fromViews z l)
   rest-8 = rest-next r (start r 7) (counted locks) (fromSources z l) (start r 8) (omega (arith, start-8)) rest-7
 
-  pub start-9 : start r 9 ≡ start r 8 + 2 + 2 * length (sourcesFrom z [] l)
+  start-9 : start r 9 ≡ start r 8 + 2 + 2 * length (sourcesFrom z [] l)
   unfolding width
   start-9 = let e = start-next r 8 (length sources) _ (omega arith) (f .sources .within) rest-8 in omega arith
 
-  pub rest-9 : Rest r (start r 9) (twoBytes (z .processors) ++ views z l (z .processors))
+  rest-9 : Rest r (start r 9) (twoBytes (z .processors) ++ views z l (z .processors))
   rest-9 =
       rest-next r (start r 8) (twoBytes (length sources) ++ pairs sources) (fromViews z l) (start r 9) (omega (arith, start-9, pairs-length sources))
       rest-8
@@ -143,7 +143,7 @@ module _ (z : Execution) (l : List ℕ) (f : Formed (readOff z l)) (a r : List �
       let (w, q) = views-next z l m (z .processors) h in
       (w, rest-next r (start r 9 + 2) (views z l m) (counted (viewOf z m l) ++ w) (viewStart r m) e (rw q at rest-views))
 
-  pub view-place : (m : ℕ) → m ≤ z .processors → viewStart r m ≡ start r 9 + 2 + length (views z l m)
+  view-place : (m : ℕ) → m ≤ z .processors → viewStart r m ≡ start r 9 + 2 + length (views z l m)
   unfolding viewStart views width
   view-place zero h = omega arith
   view-place (suc m) h =
@@ -153,7 +153,7 @@ module _ (z : Execution) (l : List ℕ) (f : Formed (readOff z l)) (a r : List �
       let g = length-append (views z l m) (counted (viewOf z m l)) in
       omega arith
 
-  pub view-rest : (m : ℕ) → m < z .processors → (w : List ℕ) × Rest r (viewStart r m) (counted (viewOf z m l) ++ w)
+  view-rest : (m : ℕ) → m < z .processors → (w : List ℕ) × Rest r (viewStart r m) (counted (viewOf z m l) ++ w)
   view-rest m h = view-from m h (view-place m (omega arith))
 
   pub views-end : viewStart r (z .processors) ≡ length r

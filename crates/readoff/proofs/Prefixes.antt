@@ -86,7 +86,7 @@ module _ (s w : List ℕ) (h : Right s) where
   unfolding count
   prefix-count k a b = ap (num 2 kept) (prefix-start k (omega arith)) ∙ count-kept k a b
 
-  pub prefix-counts : counts kept ≡ counts s
+  prefix-counts : counts kept ≡ counts s
   unfolding counts
   prefix-counts =
       let p = prefix-processors in

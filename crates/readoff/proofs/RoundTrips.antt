@@ -88,7 +88,7 @@ module _ (s l : List ℕ) (r : Right s) (f : Formed (readOff (executionOf s) l))
       go (no h) (no d) (yes e) = rw e (locks-right z l f front bytes refl six same-events same-locks)
       go (no h) (no d) (no e) = let g : k ≡ 8 = omega arith in rw g (sources-right z l f front bytes refl six same-events same-locks)
 
-  pub off-right : Right (bytesOf s l)
+  off-right : Right (bytesOf s l)
   unfolding bytesOf
   off-right = record {
     form = prefix-form s w r;
@@ -99,7 +99,7 @@ module _ (s l : List ℕ) (r : Right s) (f : Formed (readOff (executionOf s) l))
     ends = rw (prefix-processors s w r) (views-end z l f front bytes refl six);
   }
 
-  pub off-agrees : Agree (executionOf (bytesOf s l)) (readOff (executionOf s) l)
+  off-agrees : Agree (executionOf (bytesOf s l)) (readOff (executionOf s) l)
   unfolding bytesOf
   off-agrees = record {
     processors = prefix-processors s w r;
