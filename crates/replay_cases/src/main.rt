@@ -1,7 +1,8 @@
 // Replays the records of standard input by their lists: a case is the length of the record and of the list, in two bytes each, then the
-// record and the list. A line for each of these: the replay's answer, how many entries its evidence has and these; the replay with a
-// buffer of 64 entries, and what then is in the first; the read-off's answer, length, the bytes of its witness and the byte behind them;
-// the check's answer and evidence for what was read off, if it was; the read-off with one byte too few, and its first byte.
+// record and the list. A line for each of these: the record's length and the list; the replay's answer, how many entries its evidence
+// has and these; the replay with a buffer of 64 entries, and what then is in the first; the read-off's answer, length, the bytes of its
+// witness and the byte behind them; the check's answer and evidence for what was read off, if it was; the read-off with one byte too
+// few, and its first byte.
 use libc::STDIN_FILENO;
 use libc::STDOUT_FILENO;
 
@@ -110,7 +111,16 @@ fn print_tight(s: &[u8], list: &[u16]) {
     io::write_all(STDOUT_FILENO, b"\n");
 }
 
+fn print_case(s: &[u8], list: &[u16]) {
+    io::write_all(STDOUT_FILENO, b"record");
+    print_number(s.len() as u64);
+    io::write_all(STDOUT_FILENO, b" list");
+    print_list(list, list.len());
+    io::write_all(STDOUT_FILENO, b"\n");
+}
+
 fn print_all(s: &[u8], list: &[u16]) {
+    print_case(s, list);
     print_replay(s, list);
     print_short(s, list);
     print_read_off(s, list);

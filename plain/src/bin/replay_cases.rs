@@ -88,6 +88,8 @@ fn judged(name: &str, (answer, written): (u16, usize), evidence: &[u16]) {
 }
 
 fn expected((record, list): &Case) {
+    let numbers: String = list.iter().map(|number| format!(" {number}")).collect();
+    println!("record {} list{numbers}", record.len());
     let mut evidence = [9; EVIDENCE_ENTRIES];
     judged("replay", replay(record, list, &mut evidence), &evidence);
     let mut short = [9; EVIDENCE_ENTRIES - 1];
