@@ -27,7 +27,7 @@ use Rattle.replay.specs.ReadOff.{choose, entriesAt, locksFrom}
 use Rattle.replay.proofs.Pasts.{Past, past-next}
 use Rattle.replay.proofs.Locking.{Of, first-decides, shared}
 use Rattle.readoff.specs.Bytes.{twoBytes, counted}
-use Rattle.readoff.specs.Put.{Put, PutTo}
+use Rattle.lent.specs.Put.{Put, PutTo}
 use Rattle.readoff.proofs.Parts.{Part, part-none, part-more, part-ends, part-done}
 
 -- the entries whose first event stands at place c

@@ -8,7 +8,6 @@ pub mod Parts
 pub mod Pickings
 pub mod Prefixes
 pub mod Promises
-pub mod Puts
 pub mod RoundTrips
 pub mod Viewings
 pub mod Wholes

@@ -24,7 +24,7 @@ use Rattle.replay.proofs.Sourcing.{Latest, last-writer, last-unique}
 use Rattle.replay.proofs.Stating.{read-known}
 use Rattle.replay.proofs.Tests.{read-decides}
 use Rattle.readoff.specs.Bytes.{twoBytes, pairs}
-use Rattle.readoff.specs.Put.{Put, PutTo}
+use Rattle.lent.specs.Put.{Put, PutTo}
 use Rattle.readoff.proofs.Blocks.{pairs-length}
 use Rattle.readoff.proofs.Parts.{Part, part-none, part-more, part-ends, part-done}
 use Rattle.readoff.proofs.Pickings.{chosen, left}

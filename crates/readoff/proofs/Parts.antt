@@ -5,8 +5,8 @@ use mathlib.Core.List.{List, [], _∷_, _++_, append-assoc, append-nil}
 use native.Mathlib.Omega.{arith}
 use lib.ListN.{length, set, length-append}
 use Rattle.readoff.specs.Bytes.{twoBytes}
-use Rattle.readoff.specs.Put.{Put, PutTo}
-use Rattle.readoff.proofs.Puts.{put-nothing, put-next, put-ahead}
+use Rattle.lent.specs.Put.{Put, PutTo}
+use Rattle.lent.proofs.Puts.{put-nothing, put-next, put-ahead}
 
 -- the bytes before `to` are written, the rest of all is to come
 pub record Part (before : List ℕ) (at : ℕ) (after : List ℕ) (to : ℕ) (rest all : List ℕ) : Type 0 where

@@ -14,7 +14,7 @@ use Rattle.replay.specs.Sequence.{steps}
 use Rattle.replay.specs.Known.{Narrowed}
 use Rattle.replay.specs.ReadOff.{choose, picked}
 use Rattle.readoff.specs.Bytes.{twoBytes, counted}
-use Rattle.readoff.specs.Put.{Put, PutTo}
+use Rattle.lent.specs.Put.{Put, PutTo}
 use Rattle.readoff.proofs.Parts.{Part, part-none, part-more, part-ends, part-done}
 
 -- the test picks the numbers in the set

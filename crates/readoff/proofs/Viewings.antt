@@ -21,10 +21,10 @@ use Rattle.replay.specs.Known.{Narrowed}
 use Rattle.replay.specs.ReadOff.{isStore, picked, event, viewOf}
 use Rattle.replay.proofs.Tests.{sees-decides}
 use Rattle.readoff.specs.Bytes.{twoBytes, counted, views}
-use Rattle.readoff.specs.Put.{Put, PutTo}
+use Rattle.lent.specs.Put.{Put, PutTo}
 use Rattle.readoff.proofs.Bounds.{picked-short}
 use Rattle.readoff.proofs.Pickings.{Picks}
-use Rattle.readoff.proofs.Puts.{put-nothing, put-then, put-length}
+use Rattle.lent.proofs.Puts.{put-nothing, put-then, put-length}
 
 -- the bytes b, the rows f and the set of stores say what the execution and the list do
 pub record Shown (z : Execution) (l b : List ℕ) (n : ℕ) (f : List ℕ) (stores : Set) : Type 0 where

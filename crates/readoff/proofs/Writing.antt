@@ -37,13 +37,13 @@ use Rattle.replay.specs.Known.{Narrowed}
 use Rattle.replay.specs.ReadOff.{isStore, picked, event, storesOf, locksFrom, sourcesFrom, readOff}
 use Rattle.replay.proofs.Tests.{store-decides}
 use Rattle.readoff.specs.Bytes.{twoBytes, counted, pairs, views, bytesOf}
-use Rattle.readoff.specs.Put.{Put, PutTo}
+use Rattle.lent.specs.Put.{Put, PutTo}
 use Rattle.readoff.specs.Written.{WrittenOff, ReadOff}
 use Rattle.readoff.proofs.Blocks.{pairs-length}
 use Rattle.readoff.proofs.Bounds.{once-kept, sequence-length}
 use Rattle.readoff.proofs.Pickings.{Picks}
 use Rattle.readoff.proofs.Prefixes.{prefix-length}
-use Rattle.readoff.proofs.Puts.{put-then, put-length, put-written}
+use Rattle.lent.proofs.Puts.{put-then, put-length, put-written}
 use Rattle.readoff.proofs.RoundTrips.{off-formed}
 
 -- sections 0 to 5 at their limits

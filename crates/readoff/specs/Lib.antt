@@ -1,4 +1,3 @@
 pub mod Bytes
 pub mod Promises
-pub mod Put
 pub mod Written

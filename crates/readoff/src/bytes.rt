@@ -2,7 +2,7 @@
 ghost use Prim.Native.Nat.{_+_, _≤_, _<_};
 ghost use lib.ListN.{length, take};
 ghost use Rattle.readoff.specs.Bytes.{twoBytes};
-ghost use Rattle.readoff.specs.Put.{Put};
+ghost use Rattle.lent.specs.Put.{Put};
 
 // Writes a count in two bytes.
 pub fn put_count(out: &mut [u8], at: usize, n: usize)

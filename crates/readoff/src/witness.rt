@@ -17,7 +17,7 @@ ghost use Rattle.replay.specs.Sequence.{steps};
 ghost use Rattle.replay.specs.Known.{Narrowed};
 ghost use Rattle.replay.specs.ReadOff.{picked, locksFrom, sourcesFrom};
 ghost use Rattle.readoff.specs.Bytes.{twoBytes, counted, pairs, views};
-ghost use Rattle.readoff.specs.Put.{PutTo};
+ghost use Rattle.lent.specs.Put.{PutTo};
 use crate::bytes::put_count;
 use facts::Classes;
 use form::bytes::num1;

@@ -3,7 +3,7 @@ use mathlib.Core.List.{[], _∷_}
 use native.Mathlib.Omega.{arith}
 use borrow.Author.Needs.{needs}
 use lib.ListN.{length, length-set}
-use Rattle.readoff.proofs.Puts.{put-nothing, put-next}
+use Rattle.lent.proofs.Puts.{put-nothing, put-next}
 use Rattle.readoff.proofs.bytes.put_count.Statement.{statement}
 use Rattle.readoff.proofs.bytes.put_count.Tie as tie
 

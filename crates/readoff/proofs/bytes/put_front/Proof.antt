@@ -4,8 +4,8 @@ use native.Mathlib.Omega.{arith}
 use native.Mathlib.Numerals.{add-one}
 use lib.ListN.{take}
 use lib.Seq.{length-take-le, take-suc}
-use Rattle.readoff.specs.Put.{Put}
-use Rattle.readoff.proofs.Puts.{put-nothing, put-next, put-length}
+use Rattle.lent.specs.Put.{Put}
+use Rattle.lent.proofs.Puts.{put-nothing, put-next, put-length}
 use Rattle.readoff.proofs.bytes.put_front.Statement.{statement}
 use Rattle.readoff.proofs.bytes.put_front.Tie as tie
 

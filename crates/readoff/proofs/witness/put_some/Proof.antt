@@ -4,7 +4,7 @@ use mathlib.Core.Logic.{⊎-elim}
 use native.Mathlib.Omega.{arith}
 use Rattle.form.proofs.Numbers.{num-one}
 use Rattle.readoff.proofs.Pickings.{Picking, picking-none, picking-more, picking-skip, picking-done}
-use Rattle.readoff.proofs.Puts.{put-length}
+use Rattle.lent.proofs.Puts.{put-length}
 use Rattle.readoff.proofs.witness.put_some.Statement.{statement}
 use Rattle.readoff.proofs.witness.put_some.Tie as tie
 

@@ -2,7 +2,7 @@ use Prim.Native.Nat.{_+_, _-_, _≤_}
 use mathlib.Core.Path.{_∙_}
 use native.Mathlib.Omega.{arith}
 use borrow.Author.Needs.{needs}
-use Rattle.readoff.proofs.Puts.{put-length}
+use Rattle.lent.proofs.Puts.{put-length}
 use Rattle.readoff.proofs.Viewings.{Viewing, viewing-none, viewing-next, viewing-done}
 use Rattle.readoff.proofs.witness.put_views.Statement.{statement}
 use Rattle.readoff.proofs.witness.put_views.Tie as tie

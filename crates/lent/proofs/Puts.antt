@@ -7,7 +7,7 @@ use native.Mathlib.Nat.{add-zero, zero-add}
 use lib.ListN.{length, take, drop, set, getD, length-append, length-drop, take-append-drop}
 use lib.Seq.{length-take-le, drop-cons, set-at, take-at, drop-at, take-append-le, take-take, drop-drop}
 use Rattle.order.specs.Evidence.{Written}
-use Rattle.readoff.specs.Put.{Put}
+use Rattle.lent.specs.Put.{Put}
 
 pub put-nothing : (b : List ℕ) (at : ℕ) → at ≤ length b → Put b at [] b
 put-nothing b at h = record { fits = omega arith; is = rw add-zero (sym (take-append-drop at b)) }

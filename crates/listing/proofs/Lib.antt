@@ -1,0 +1,4 @@
+pub mod Lines
+pub mod Listings
+pub mod Telling
+pub mod Texts
