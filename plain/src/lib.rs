@@ -6,18 +6,25 @@
 //!
 //! Layers, lowest first: `reading` (answers 2 to 5), `facts` (each event's facts
 //! as sets), `structure` (10 to 14), `orders` and `cycle` (relations), `check`
-//! (20 to 27), `replay` (28 to 33).
+//! (20 to 27), `replay` (28 to 33). For tools and tests alone: `marked`, `sample`,
+//! `shapes`, `programs`, `runs`, `changes`, `vectors`.
 #![forbid(unsafe_code)]
 
 mod bits;
+pub mod changes;
 mod check;
 mod cycle;
 mod facts;
+pub mod marked;
 mod orders;
+pub mod programs;
 mod reading;
 mod replay;
+pub mod runs;
 pub mod sample;
+pub mod shapes;
 mod structure;
+pub mod vectors;
 
 pub use check::{check, order_table};
 pub use reading::{form, next_entry, view};

@@ -224,7 +224,7 @@ pub fn form(record: &[u8]) -> (u16, u16) {
 }
 
 /// The view question: the answer, and the part of the record that is the view.
-pub fn view(record: &[u8], processor: u8) -> (u16, usize, usize) {
+pub fn view(record: &[u8], processor: u16) -> (u16, usize, usize) {
     let sections = match read(record) {
         Ok(sections) => sections,
         Err((answer, _)) => return (answer, 0, 0),

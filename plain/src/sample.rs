@@ -1,5 +1,8 @@
-//! Records written out for tools and tests. The operations use none of this;
-//! only here are vectors.
+//! Records written out for tools and tests. The operations use none of this,
+//! nor of the modules above it.
+
+use crate::reading::read;
+use crate::{marked, EVIDENCE_ENTRIES, LONGEST_RECORD};
 
 pub const LOAD: u8 = 0;
 pub const STORE: u8 = 1;
@@ -23,6 +26,51 @@ pub struct Initial {
     pub class: u8,
     pub place: u32,
     pub value: u32,
+}
+
+impl Event {
+    /// Whether it is a load or a store.
+    pub fn is_memory(&self) -> bool {
+        self.kind < READ
+    }
+
+    /// Whether it is a store or a register write.
+    pub fn is_write(&self) -> bool {
+        self.kind == STORE || self.kind == WRITE
+    }
+
+    /// Its instruction, as section 4 would name it.
+    pub fn instruction(&self) -> (u8, u16) {
+        (self.processor, self.index)
+    }
+
+    pub fn same_place(&self, other: &Event) -> bool {
+        let same_file = self.is_memory() || self.processor == other.processor;
+        self.is_memory() == other.is_memory() && self.place == other.place && same_file
+    }
+
+    /// An initial value for its place, the one that it has itself.
+    pub fn initially(&self) -> Initial {
+        match self.is_memory() {
+            true => memory(self.place, self.value),
+            false => register(self.processor, self.place, self.value),
+        }
+    }
+
+    /// Whether section 8 may name it as the source of the other.
+    pub fn feeds(&self, other: &Event) -> bool {
+        let write_and_read = self.is_write() && !other.is_write();
+        write_and_read && self.same_place(other) && self.value == other.value
+    }
+}
+
+impl Initial {
+    /// Whether it is an initial value of the event's place.
+    pub fn is_of(&self, e: &Event) -> bool {
+        let class = u8::from(!e.is_memory());
+        let same_file = e.is_memory() || self.processor == e.processor;
+        self.class == class && self.place == e.place && same_file
+    }
 }
 
 /// A record by its entries; nothing in it need be in range.
@@ -89,6 +137,70 @@ impl Record {
     }
 }
 
+/// What the rules ask of events, for records that are in range.
+impl Record {
+    pub fn same_instruction(&self, a: usize, b: usize) -> bool {
+        self.events[a].instruction() == self.events[b].instruction()
+    }
+
+    /// Whether section 4 names the event's instruction.
+    pub fn is_locked(&self, e: usize) -> bool {
+        self.locked.contains(&self.events[e].instruction())
+    }
+
+    /// Whether section 3 or preserved order holds from a to b.
+    pub fn keeps(&self, a: usize, b: usize) -> bool {
+        if self.causality.contains(&(a as u8, b as u8)) {
+            return true;
+        }
+        let (x, y) = (&self.events[a], &self.events[b]);
+        let memory_pair = x.is_memory() && y.is_memory();
+        let kept = x.same_place(y)
+            || (memory_pair && (x.kind == LOAD || y.kind == STORE))
+            || (x.is_memory() && self.is_locked(b))
+            || (self.is_locked(a) && y.is_memory());
+        x.processor == y.processor && x.index < y.index && kept
+    }
+
+    /// Whether the processor sees the event.
+    pub fn sees(&self, p: usize, e: usize) -> bool {
+        self.events[e].processor as usize == p || self.events[e].kind == STORE
+    }
+
+    /// The value that section 5 gives the event's place.
+    pub fn initial_value(&self, e: &Event) -> Option<u32> {
+        self.initial.iter().find(|i| i.is_of(e)).map(|i| i.value)
+    }
+
+    /// The record with sections 6 to 9 read off from a sequence that has each
+    /// locked instruction together.
+    pub fn with_witness_of(&self, list: &[u16]) -> Record {
+        let views = vec![vec![]; self.processors as usize];
+        let bytes = Record { views, ..self.clone() }.bytes();
+        let (answer, written) = marked::read_off(&bytes, list, LONGEST_RECORD);
+        let (0, Ok(read)) = (answer, read(&written)) else {
+            panic!("no read-off of {self:?} by {list:?}: {answer}");
+        };
+        Record {
+            store_order: read.store_order.to_vec(),
+            locked_order: read.locked_order.to_vec(),
+            reads_from: read.reads_from.iter().map(|&[w, r]| (w, r)).collect(),
+            views: read.views().iter().map(|view| view.to_vec()).collect(),
+            ..self.clone()
+        }
+    }
+
+    /// What the check says of it.
+    pub fn checked(&self) -> (u16, Vec<u16>) {
+        marked::check(&self.bytes(), EVIDENCE_ENTRIES)
+    }
+
+    /// What the replay says of it by a list.
+    pub fn replayed(&self, list: &[u16]) -> (u16, Vec<u16>) {
+        marked::replay(&self.bytes(), list, EVIDENCE_ENTRIES)
+    }
+}
+
 /// An event, its fields in layout order.
 pub fn event(processor: u8, kind: u8, index: u16, place: u32, value: u32) -> Event {
     Event { processor, kind, index, place, value }
@@ -124,6 +236,18 @@ pub fn s1() -> Record {
 /// Slot case S2: S1 with both claims locked.
 pub fn s2() -> Record {
     Record { locked: vec![(0, 0), (1, 0)], locked_order: vec![0, 1], ..s1() }
+}
+
+/// All orders of 0 to 3, the least first: the sequences of S1 and S2.
+pub fn orders_of_four() -> Vec<Vec<u16>> {
+    let mut orders = Vec::new();
+    for number in 0..256u16 {
+        let list: Vec<u16> = (0..4).map(|place| number >> (6 - 2 * place) & 3).collect();
+        if (0..4).all(|e| list.contains(&e)) {
+            orders.push(list);
+        }
+    }
+    orders
 }
 
 /// Two stores and a load of one address; the load takes the first store.
@@ -183,6 +307,23 @@ impl Random {
 
     pub fn pick<T: Copy>(&mut self, among: &[T]) -> T {
         among[self.below(among.len())]
+    }
+
+    /// Some of these, if there are any.
+    pub fn some<T: Copy>(&mut self, among: &[T]) -> Option<T> {
+        (!among.is_empty()).then(|| self.pick(among))
+    }
+
+    /// A place from 0 to the bound, often one of these two.
+    pub fn place(&mut self, bound: usize) -> usize {
+        let any = self.below(bound + 1);
+        self.pick(&[0, bound, any])
+    }
+
+    /// Inserts an item at some place, often first or last.
+    pub fn insert<T>(&mut self, list: &mut Vec<T>, item: T) {
+        let at = self.place(list.len());
+        list.insert(at, item);
     }
 
     pub fn shuffle<T>(&mut self, items: &mut [T]) {

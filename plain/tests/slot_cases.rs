@@ -1,77 +1,66 @@
 //! The slot cases, and the errors a builder falls into, one test each.
 
 use plain::sample::{event, overwritten, register, s1, s2, torn, Record, LOAD, READ, STORE, WRITE};
-use plain::{check, form, order_table, read_off, replay, structure, view};
-
-fn checked(record: &Record) -> (u16, Vec<u16>) {
-    let mut evidence = [0; 65];
-    let (answer, written) = check(&record.bytes(), &mut evidence);
-    (answer, evidence[..written].to_vec())
-}
-
-fn replayed(record: &Record, list: &[u16]) -> (u16, Vec<u16>) {
-    let mut evidence = [0; 65];
-    let (answer, written) = replay(&record.bytes(), list, &mut evidence);
-    (answer, evidence[..written].to_vec())
-}
+use plain::shapes::{longest, stores};
+use plain::{check, form, order_table, read_off, structure, view};
 
 #[test]
 fn s1_is_valid() {
     assert_eq!(s1().bytes().len(), 102);
-    assert_eq!(checked(&s1()), (0, vec![]));
+    assert_eq!(s1().checked(), (0, vec![]));
 }
 
 #[test]
 fn s1_with_a_view_too_short() {
     let record = Record { views: vec![vec![0, 1], vec![2, 3, 0]], ..s1() };
-    assert_eq!(checked(&record), (20, vec![0, 2]));
+    assert_eq!(record.checked(), (20, vec![0, 2]));
 }
 
 #[test]
 fn s1_with_store_order_too_short() {
     let record = Record { store_order: vec![0], ..s1() };
-    assert_eq!(checked(&record), (21, vec![2]));
+    assert_eq!(record.checked(), (21, vec![2]));
 }
 
 #[test]
 fn s1_with_a_source_of_another_value() {
     let record = Record { reads_from: vec![(0, 3)], ..s1() };
-    assert_eq!(checked(&record), (23, vec![0, 3]));
+    assert_eq!(record.checked(), (23, vec![0, 3]));
 }
 
 #[test]
 fn s2_has_a_cycle() {
-    assert_eq!(checked(&s2()), (24, vec![1, 0, 2]));
+    assert_eq!(s2().checked(), (24, vec![1, 0, 2]));
 }
 
 #[test]
 fn s2_with_view_3_0_2() {
     let record = Record { views: vec![vec![0, 1, 2], vec![3, 0, 2]], ..s2() };
-    assert_eq!(checked(&record), (24, vec![1, 2, 3]));
+    assert_eq!(record.checked(), (24, vec![1, 2, 3]));
 }
 
 #[test]
 fn s2_with_view_0_2_3() {
     let record = Record { views: vec![vec![0, 1, 2], vec![0, 2, 3]], ..s2() };
-    assert_eq!(checked(&record), (26, vec![1, 3, 2, 0]));
+    assert_eq!(record.checked(), (26, vec![1, 3, 2, 0]));
 }
 
 #[test]
 fn overwritten_source() {
-    assert_eq!(checked(&overwritten()), (25, vec![0, 0, 2, 1]));
+    assert_eq!(overwritten().checked(), (25, vec![0, 0, 2, 1]));
 }
 
 #[test]
 fn locked_instruction_broken_up() {
-    assert_eq!(checked(&torn()), (27, vec![1, 0, 2, 1]));
+    assert_eq!(torn().checked(), (27, vec![1, 0, 2, 1]));
 }
 
 #[test]
 fn replays() {
-    assert_eq!(replayed(&s1(), &[1, 3, 0, 2]), (0, vec![]));
-    assert_eq!(replayed(&s1(), &[0, 1, 2, 3]), (33, vec![3]));
-    assert_eq!(replayed(&s2(), &[1, 3, 0, 2]), (32, vec![0, 1]));
-    assert_eq!(replayed(&s1(), &[0, 3, 1, 2]), (33, vec![3]));
+    assert_eq!(s1().replayed(&[1, 3, 0, 2]), (0, vec![]));
+    assert_eq!(s1().replayed(&[0, 1, 2, 3]), (33, vec![3]));
+    assert_eq!(s2().replayed(&[1, 3, 0, 2]), (32, vec![0, 1]));
+    assert_eq!(s1().replayed(&[0, 3, 1, 2]), (33, vec![3]));
 }
 
 #[test]
@@ -84,54 +73,28 @@ fn least_records() {
     assert_eq!(evidence[0], 0);
 }
 
-/// One processor, one store an instruction, all other sections least.
-fn stores(n: usize) -> Record {
-    Record {
-        processors: 1,
-        events: (0..n).map(|i| event(0, STORE, i as u16, 4 * i as u32, 0)).collect(),
-        views: vec![vec![]],
-        ..Record::default()
-    }
-}
-
 #[test]
 fn limits() {
-    assert_eq!(form(&stores(64).bytes()), (0, 0));
-    assert_eq!(form(&stores(65).bytes()), (3, 2));
-    let locked = |g: u16| Record { locked: (0..g).map(|i| (0, i)).collect(), ..stores(64) };
-    assert_eq!(form(&locked(16).bytes()), (0, 0));
-    assert_eq!(form(&locked(17).bytes()), (3, 4));
-    let whole = Record {
-        store_order: (0..64).collect(),
-        locked_order: (0..16).collect(),
-        views: vec![(0..64).collect()],
-        ..locked(16)
-    };
-    assert_eq!(checked(&whole), (0, vec![]));
+    assert_eq!(form(&stores(64, 0).bytes()), (0, 0));
+    assert_eq!(form(&stores(65, 0).bytes()), (3, 2));
+    assert_eq!(form(&stores(64, 16).bytes()), (0, 0));
+    assert_eq!(form(&stores(64, 17).bytes()), (3, 4));
+    assert_eq!(stores(64, 16).checked(), (0, vec![]));
 }
 
 /// A record as long as the form allows has 2,346 bytes.
 #[test]
 fn longest_record() {
-    let record = Record {
-        processors: 4,
-        events: (0..64).map(|i| event(i / 16, STORE, i as u16, 4, 0)).collect(),
-        causality: vec![(0, 0); 128],
-        locked: (0..16).map(|i| (0, i)).collect(),
-        initial: vec![register(0, 0, 0); 64],
-        store_order: (0..64).collect(),
-        locked_order: (0..16).collect(),
-        reads_from: vec![(0, 0); 64],
-        views: vec![(0..64).collect(); 4],
-    };
+    let record = longest();
     assert_eq!(record.bytes().len(), plain::LONGEST_RECORD);
-    assert_eq!(form(&record.bytes()), (0, 0));
+    assert_eq!(record.checked(), (23, vec![0, 63]));
+    assert_eq!(Record { reads_from: vec![], ..record }.checked(), (0, vec![]));
 }
 
 #[test]
 fn a_store_may_pass_a_later_load_of_another_address() {
     let record = Record { views: vec![vec![1, 0, 2], vec![2, 3, 0]], ..s1() };
-    assert_eq!(checked(&record), (0, vec![]));
+    assert_eq!(record.checked(), (0, vec![]));
 }
 
 #[test]
@@ -183,7 +146,7 @@ fn a_locked_instruction_is_seen_by_its_stores() {
         views: vec![vec![0, 1, 2, 3, 4], vec![4, 2]],
         ..Record::default()
     };
-    assert_eq!(checked(&record), (0, vec![]));
+    assert_eq!(record.checked(), (0, vec![]));
     let without = Record { causality: vec![(0, 2), (1, 3)], ..record };
     let mut evidence = [0; 65];
     assert_eq!(structure(&without.bytes(), &mut evidence), (12, 2));

@@ -60,7 +60,7 @@ fn print_short(s: &[u8]) {
 
 fn print_order(s: &[u8]) {
     let mut out = [7u64; 64];
-    let a = judge::table::order_table(s, &mut out);
+    let a = table::order_table(s, &mut out);
     io::write_all(STDOUT_FILENO, b"order");
     print_number(wide(a));
     print_words(&out);
@@ -69,7 +69,7 @@ fn print_order(s: &[u8]) {
 
 fn print_tight(s: &[u8]) {
     let mut out = [7u64; 3];
-    let a = judge::table::order_table(s, &mut out);
+    let a = table::order_table(s, &mut out);
     io::write_all(STDOUT_FILENO, b"tight");
     print_number(wide(a));
     print_words(&out);

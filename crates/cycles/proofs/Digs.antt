@@ -15,7 +15,7 @@ use Rattle.order.proofs.Cycles.{walk-cyclic, cyclic-walk}
 use Rattle.rows.specs.Members.{In, Is, Member, Meet, value}
 use Rattle.rows.specs.Table.{rel, on}
 use Rattle.rows.specs.declared.Set.{Set}
-use Rattle.rows.proofs.Members.{in-low, first-in, subset-less}
+use Rattle.rows.proofs.Members.{in-low, subset-less}
 use Rattle.cycles.specs.Search.{among, Left}
 
 -- the path has been at x
@@ -256,8 +256,8 @@ module _ (t : List ℕ) (live : Set) (v : ℕ) (row : Set) (ir : Is row (rel t v
     pub no-next : (Member next → ⊥) → (c : ℕ) → rel t v c → In live c → ⊥
     no-next f c r i = f (c, q .has c (ir .has c r, i))
 
-    pub next-in : Member next → (w : ℕ) → Hit 64 (In next) w → In live w × rel t v w
-    next-in m w f = let h = q .says w (first-in next m w f) in (h .1, ir .says w (h .0))
+    pub next-in : (w : ℕ) → In next w → In live w × rel t v w
+    next-in w i = let h = q .says w i in (h .1, ir .says w (h .0))
 
 -- ---- of the events below n
 

@@ -18,8 +18,9 @@ fn wide(x: u8) -> usize
 }
 
 // What is left of a set when events with no step into what is left are taken away: one path, depth first, that goes back where it
-// cannot go on. Each event that it goes to keeps the event that it came from (the first itself), the others 64. A step to an event
-// on the path closes a cycle, and the rest is not looked at.
+// cannot go on. It goes to the greatest event that it can, since events mostly happen before later numbered ones. Each event that it
+// goes to keeps the event that it came from (the first itself), the others 64. A step to an event on the path closes a cycle, and the
+// rest is not looked at.
 fn dig(t: &[u64], all: Set) -> Set
     requires { ⌜ ((a : ℕ) → In all a → HasRow (now t) a) ⌝ }
     ensures { λ r. ⌜ Left (among (now (t .entry)) all) r × ((a : ℕ) → In r a → In all a) ⌝ }
@@ -34,7 +35,7 @@ fn dig(t: &[u64], all: Set) -> Set
     loop {
         let next = rows::common(rows::row(t, v), live);
         if rows::any(next) {
-            let w = rows::first(next);
+            let w = rows::last(next);
             if !rows::meets(rows::row(t, w), live) {
                 live = rows::without(live, w);
             } else if from[w] == 64 {

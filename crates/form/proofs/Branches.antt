@@ -11,7 +11,7 @@ use lib.ListN.{length}
 use lib.Dec.{leb, eqb, lit≤}
 use borrow.Author.Tests.{lt-ltb, le-ltb, le-leb, lt-leb, eq-eqb, ne-eqb, leb-true, eqb-true, eqb-false}
 use Rattle.form.specs.Bytes.{num}
-use Rattle.form.specs.Steps.{stop}
+use Rattle.form.specs.Steps.{stop, run, upto}
 use Rattle.form.specs.Form.{due, width, limit, fieldsFrom, fields, eventFields, pairFields, lockFields, initialFields, oneField, placeRight, ownerRight, entry, entries, block, Section}
 use Rattle.form.specs.declared.Counts.{Counts}
 use Rattle.form.specs.declared.Fault.{Fault}
@@ -168,6 +168,10 @@ module _ (c : Counts) (s : List ℕ) (k at : ℕ) where
     pub block-next : num 2 s at ≤ limit k → (r : Step) → r ≡ entries c s k (num 2 s at) a → r ≡ block c s k at
     unfolding block
     block-next h r p = rw e (rw (le-leb _ _ h) p)
+
+    pub block-empty : num 2 s at ≡ 0 → Next a ≡ block c s k at
+    unfolding entries upto run
+    block-empty h = block-next (omega arith) (Next a) (rw h)
 
 -- no entry is longer than twelve bytes
 pub width-le : (k : ℕ) → width k ≤ 12

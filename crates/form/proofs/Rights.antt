@@ -117,6 +117,10 @@ sections-well s z h =
     upto-well (block (counts s) s) (start s) 2 9 z (omega arith)
     (λ k q x y e. block-well (counts s) s k (start s k) q (section-of k x (omega arith)) e .ends ∙ sym (start-more s k x)) h
 
+-- sections 0 to 8 that went well end where section 9 starts
+pub sections-end : (s : List ℕ) (a z : ℕ) → head s ≡ Next a → sections (counts s) s a ≡ Next z → z ≡ start s 9
+sections-end s a z h e = sections-well s z (rw (head-well s a h .2) at e) .0
+
 views-well : (s : List ℕ) (m z : ℕ) → views (counts s) s m (viewStart s 0) ≡ Next z
     → (z ≡ viewStart s m) × ((p : ℕ) → p < m → block (counts s) s 9 (viewStart s p) ≡ Next (viewStart s (p + 1)))
 unfolding views

@@ -39,6 +39,9 @@ pub fn block(c: Counts, s: &[u8], k: u16, at: usize) -> Step
         Step::Stop(f) => Step::Stop(f),
         Step::Next(a) => {
             let m = num2(s, at);
+            if m == 0 {
+                return Step::Next(a);
+            }
             if limit(k) < m {
                 return Step::Stop(Fault {
                     answer: 3,

@@ -6,7 +6,5 @@ pub mod Orderings
 pub mod Promises
 pub mod Scenes
 pub mod Showings
-pub mod Tables
 pub mod Viewings
-pub mod Witnesses
 pub mod Watchings

@@ -14,7 +14,6 @@ ghost use Rattle.model.specs.Rules.{witnessRules, orderRules, checkRules};
 ghost use Rattle.judge.specs.Checked.{Checked};
 use crate::Known;
 use crate::views::from_twentyfour;
-use crate::witness::witness;
 use facts::Classes;
 use facts::gather::gather;
 use facts::locks::mate;
@@ -71,7 +70,7 @@ fn from_twenty(
     requires { ⌜ Gathered (now s) l (now f) (now q) (now k) c × Held (executionOf (now s)) (now t) × (65 ≤ length (now ev)) ⌝ }
     ensures { λ r. ⌜ Given (Judged (checkRules (executionOf (now (s .entry))))) (now (ev .entry)) (now (ev .exit)) (r .answer) (r .count) ⌝ }
 {
-    let v = witness(s, l, f, q, c, ev);
+    let v = witness::witness(s, l, f, q, c, ev);
     if v.answer != 0 {
         return v;
     }

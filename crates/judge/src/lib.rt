@@ -1,4 +1,4 @@
-// The judge: rules 20 to 27, the check and the order table.
+// The judge: rules 24 to 27, and the check.
 // Promises: for every byte string and every lent buffer the answer, its evidence, and every entry of the buffer.
 //
 // The tables, by the letter they have everywhere: f the events by processor and kind, q by place, k by locked entry, m those of one
@@ -10,9 +10,7 @@ use rows::Set;
 pub mod arranged;
 pub mod check;
 pub mod closer;
-pub mod table;
 pub mod views;
-pub mod witness;
 
 // What the rules about the orders know of a record besides its tables: where its sections stand, its events by class, and those with a source.
 pub struct Known {

@@ -22,7 +22,7 @@ use Rattle.record.specs.Says.{executionOf}
 use Rattle.record.proofs.Formings.{formed}
 use Rattle.model.specs.Demand2.{Answers}
 use Rattle.judge.specs.Checked.{Checked}
-use Rattle.judge.specs.Tabled.{Filled, Tabled}
+use Rattle.table.specs.Tabled.{Filled, Tabled}
 use Rattle.listing.specs.Listing.{verdict, eventLines, Ordered, Listed}
 use Rattle.listing.proofs.Texts.{to-then}
 use Rattle.listing.proofs.Lines.{verdict-length}

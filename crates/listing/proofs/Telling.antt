@@ -27,7 +27,7 @@ use Rattle.structure.proofs.Examining.{examination-unique}
 use Rattle.model.specs.Model.{HappensBefore}
 use Rattle.model.specs.Rules.{witnessRules, orderRules, checkRules}
 use Rattle.model.specs.Demand2.{Answers}
-use Rattle.judge.specs.Tabled.{Filled, tabledBy, Tabled}
+use Rattle.table.specs.Tabled.{Filled, tabledBy, Tabled}
 use Rattle.listing.specs.Listing.{verdict, eventLines, Counts, Ordered, Listing, Listed}
 
 -- ---- answer 0 or 24 to 27: form, structure and witness are in order

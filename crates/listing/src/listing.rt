@@ -12,7 +12,7 @@ use crate::numbers::put_numbers;
 use crate::numbers::put_word;
 use form::bytes::count_at;
 use judge::check::check;
-use judge::table::order_table;
+use table::order_table;
 
 // A line for each of the first n events: its number, and how many events it happens directly before.
 fn put_events(out: &mut [u8], at: usize, t: &[u64], n: usize) -> usize

@@ -1,18 +1,17 @@
 -- The first entry of a run, case by case, for the loops that look for it; and the definitions of opening, branch by branch.
 -- Assumes nothing.
-use Prim.Native.Nat.{ℕ, suc, _+_, _*_, _-_, _≤_, _<_}
+use Prim.Native.Nat.{ℕ, zero, suc, _+_, _*_, _-_, _≤_, _<_}
 use mathlib.Core.Path.{_≡_, refl}
 use mathlib.Core.List.{List, []}
-use native.Mathlib.Nat.{add-zero, add-assoc, add-mul, one-mul, zero-mul}
+use native.Mathlib.Decide.{decLt}
 use native.Mathlib.Omega.{arith}
 use borrow.Author.Tests.{le-leb, lt-leb}
 use Rattle.form.specs.Bytes.{num}
-use Rattle.form.specs.Form.{width}
-use Rattle.form.specs.Place.{start, count, entryAt, viewStart}
+use Rattle.form.specs.Place.{viewStart}
 use Rattle.form.specs.Whole.{whole}
 use Rattle.form.specs.declared.Fault.{Fault}
 use Rattle.form.specs.declared.Step.the-variants.{Next, Stop}
-use Rattle.reader.specs.Entries.{orElse, firstOf, after, entryOf, viewOf, openAnswer, openPart}
+use Rattle.reader.specs.Entries.{orElse, firstOf, after, viewOf, openAnswer, openPart}
 use Rattle.reader.specs.declared.Item.{Item}
 use Rattle.reader.specs.declared.Item.the-variants.{Entry, Done}
 
@@ -31,6 +30,30 @@ module _ (f : ℕ → Item) (t : Item) (i e : ℕ) (r : Item) (left : orElse (fi
 
   pub first-next : i < e → f i ≡ Done → orElse (firstOf f (i + 1) (e - (i + 1))) t ≡ r
   first-next h q = rw q at (more h)
+
+-- no number gives an entry
+pub none-first : (f : ℕ → Item) (i m : ℕ) → ((j : ℕ) → i ≤ j → j < i + m → f j ≡ Done) → firstOf f i m ≡ Done
+unfolding firstOf
+none-first f i zero none = refl
+none-first f i (suc m) none = rw (none i (omega arith) (omega arith)) (none-first f (i + 1) m (λ j h g. none j (omega arith) (omega arith)))
+
+-- number b is the first that gives an entry
+pub first-at : (f : ℕ → Item) (i m b k p n : ℕ) → i ≤ b → b < i + m → ((j : ℕ) → i ≤ j → j < b → f j ≡ Done) → f b ≡ Entry k p n → firstOf f i m ≡ Entry k p n
+unfolding firstOf
+first-at f i zero b k p n h g none e = absurd (omega arith)
+first-at f i (suc m) b k p n h g none e = go (decLt i b) (λ l. first-at f (i + 1) m b k p n l (omega arith) (λ j x y. none j (omega arith) y) e)
+  where
+    go : Dec (i < b) → (i + 1 ≤ b → firstOf f (i + 1) m ≡ Entry k p n) → orElse (f i) (firstOf f (i + 1) m) ≡ Entry k p n
+    go (yes l) more = rw (none i (omega arith) l) (more (omega arith))
+    go (no l) more = let z : b ≡ i = omega arith in rw (rw z at e) refl
+
+-- an entry by its place
+module _ (at k p n : ℕ) where
+  pub passed : p < at → after at (Entry k p n) ≡ Done
+  passed h = simp (lt-leb _ _ h)
+
+  pub stays : at ≤ p → after at (Entry k p n) ≡ Entry k p n
+  stays h = simp (le-leb _ _ h)
 
 -- a loop over entries 0 to m - 1, which stand at P 0, P 1, ..: it is at number i and place a, no place grows by more than w,
 -- and what is left gives the first entry at or after `at`
@@ -54,36 +77,13 @@ module _ {f : ℕ → Item} {P : ℕ → ℕ} {w at m i a : ℕ} {r : Item} (l :
   look-none h = first-none _ _ _ _ _ (l .left) h
 
   module _ (k n : ℕ) (is : f i ≡ Entry k a n) (h : i < m) where
-    kept-here : at ≤ a → after at (f i) ≡ Entry k a n
-    kept-here g = rw is (simp (le-leb _ _ g))
-
     pub look-found : at ≤ a → Entry k a n ≡ r
-    look-found g = first-found _ _ _ _ _ (l .left) _ _ _ h (kept-here g)
-
-    passed-here : a < at → after at (f i) ≡ Done
-    passed-here g = rw is (simp (lt-leb _ _ g))
+    look-found g = first-found _ _ _ _ _ (l .left) _ _ _ h (rw is (stays _ _ _ _ g))
 
     pub look-next : (b : ℕ) → a < at → b ≡ P (i + 1) → b ≤ a + w → Looking f P w at m (i + 1) b r
-    look-next b g e s = let t = l .small in record { upto = omega arith; here = e; small = omega arith; left = first-next _ _ _ _ _ (l .left) h (passed-here g) }
+    look-next b g e s = let t = l .small in record { upto = omega arith; here = e; small = omega arith; left = first-next _ _ _ _ _ (l .left) h (rw is (passed _ _ _ _ g)) }
 
--- entries of a section, and views, as the loops meet them
-module _ (s : List ℕ) (k i : ℕ) where
-  pub entry-is : (p n : ℕ) → p ≡ entryAt s k i → n ≡ width k → entryOf s k i ≡ Entry k p n
-  unfolding entryOf
-  entry-is p n e w = cc
-
-  pub entryAt-next : entryAt s k (i + 1) ≡ entryAt s k i + width k
-  unfolding entryAt
-  entryAt-next = simp (add-mul, one-mul, add-assoc)
-
-pub entryAt-first : (s : List ℕ) (k : ℕ) → entryAt s k 0 ≡ start s k + 2
-unfolding entryAt
-entryAt-first s k = simp (zero-mul, add-zero)
-
-pub count-is : (s : List ℕ) (k at n : ℕ) → at ≡ start s k → n ≡ num 2 s at → n ≡ count s k
-unfolding count
-count-is s k at n e w = cc
-
+-- a view, as the loop meets it
 pub view-is : (s : List ℕ) (p at n : ℕ) → at ≡ viewStart s p → n ≡ num 2 s at → viewOf s p ≡ Entry 9 at (2 + n)
 unfolding viewOf
 view-is s p at n e w = cc

@@ -3,3 +3,5 @@ pub mod Firsts
 pub mod Given
 pub mod Lent
 pub mod Passed
+pub mod Spaced
+pub mod Walking

@@ -5,10 +5,9 @@ use mathlib.Core.Path.{_≡_, refl}
 use mathlib.Core.List.{List}
 use mathlib.Core.Bool.{Bool, true, false}
 use native.Mathlib.Nat.{add-zero, mul-lt-mul-of-pos-right, le-refl}
-use native.Mathlib.Decide.{decLt}
 use native.Mathlib.Omega.{arith}
-use lib.Dec.{leb, lit<}
-use borrow.Author.Tests.{le-leb, lt-leb, leb-true}
+use lib.Dec.{leb}
+use borrow.Author.Tests.{leb-true}
 use Rattle.form.specs.Bytes.{num}
 use Rattle.form.specs.Form.{width}
 use Rattle.form.specs.Place.{start, count, entryAt, viewStart}
@@ -17,45 +16,10 @@ use Rattle.form.proofs.Starts.{start-more, viewStart-next}
 use Rattle.reader.specs.Entries.{orElse, firstOf, after, entryOf, viewOf, entryFrom, viewFrom, itemAt}
 use Rattle.reader.specs.declared.Item.{Item}
 use Rattle.reader.specs.declared.Item.the-variants.{Entry, Done}
-
--- ---- runs
-none-first : (f : ℕ → Item) (i m : ℕ) → ((j : ℕ) → i ≤ j → j < i + m → f j ≡ Done) → firstOf f i m ≡ Done
-unfolding firstOf
-none-first f i zero none = refl
-none-first f i (suc m) none = rw (none i (omega arith) (omega arith)) (none-first f (i + 1) m (λ j h g. none j (omega arith) (omega arith)))
-
--- number b is the first that gives an entry
-first-at : (f : ℕ → Item) (i m b k p n : ℕ) → i ≤ b → b < i + m → ((j : ℕ) → i ≤ j → j < b → f j ≡ Done) → f b ≡ Entry k p n → firstOf f i m ≡ Entry k p n
-unfolding firstOf
-first-at f i zero b k p n h g none e = absurd (omega arith)
-first-at f i (suc m) b k p n h g none e = go (decLt i b) (λ l. first-at f (i + 1) m b k p n l (omega arith) (λ j x y. none j (omega arith) y) e)
-  where
-    go : Dec (i < b) → (i + 1 ≤ b → firstOf f (i + 1) m ≡ Entry k p n) → orElse (f i) (firstOf f (i + 1) m) ≡ Entry k p n
-    go (yes l) more = rw (none i (omega arith) l) (more (omega arith))
-    go (no l) more = let z : b ≡ i = omega arith in rw (rw z at e) refl
+use Rattle.reader.proofs.Firsts.{none-first, first-at, passed, stays}
+use Rattle.reader.proofs.Spaced.{width-pos}
 
 -- ---- places
-module _ (at k p n : ℕ) where
-  passed : p < at → after at (Entry k p n) ≡ Done
-  passed h = simp (lt-leb _ _ h)
-
-  stays : at ≤ p → after at (Entry k p n) ≡ Entry k p n
-  stays h = simp (le-leb _ _ h)
-
--- a section's entries are not empty
-width-pos : (k : ℕ) → 2 ≤ k → k < 9 → 0 < width k
-unfolding width
-width-pos zero h g = absurd (omega arith)
-width-pos (suc zero) h g = absurd (omega arith)
-width-pos (suc (suc zero)) h g = lit< tt
-width-pos (suc (suc (suc zero))) h g = lit< tt
-width-pos (suc (suc (suc (suc zero)))) h g = lit< tt
-width-pos (suc (suc (suc (suc (suc zero))))) h g = lit< tt
-width-pos (suc (suc (suc (suc (suc (suc zero)))))) h g = lit< tt
-width-pos (suc (suc (suc (suc (suc (suc (suc zero))))))) h g = lit< tt
-width-pos (suc (suc (suc (suc (suc (suc (suc (suc zero)))))))) h g = lit< tt
-width-pos (suc (suc (suc (suc (suc (suc (suc (suc (suc j))))))))) h g = absurd (omega arith)
-
 module _ (s : List ℕ) where
   start-less : (k : ℕ) → 2 ≤ k → start s k + 2 ≤ start s (k + 1)
   start-less k h = let e = start-more s k h in omega arith
@@ -100,7 +64,7 @@ module _ (s : List ℕ) where
       rw e (omega arith)
 
   -- from the next section on, none of section k is given
-  section-passed : (k at : ℕ) → 2 ≤ k → k < 9 → start s (k + 1) ≤ at → entryFrom s at k ≡ Done
+  pub section-passed : (k at : ℕ) → 2 ≤ k → k < 9 → start s (k + 1) ≤ at → entryFrom s at k ≡ Done
   unfolding entryFrom entryOf
   section-passed k at g l h =
       none-first (λ i. after at (entryOf s k i)) 0 (count s k)

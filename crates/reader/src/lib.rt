@@ -2,13 +2,13 @@
 // Promises: for every byte string and every place the first entry at or after it, by the definition `itemAt`; opening gives the
 // answer of reading, and a refused record is handed on as no bytes, which hold no entry.
 ghost use mathlib.Core.Path.{_≡_};
-ghost use Prim.Native.Nat.{_≤_, _<_};
-ghost use Rattle.reader.specs.Entries.{entryFrom, viewFrom, itemAt, openAnswer, openPart};
+ghost use Prim.Native.Nat.{ℕ, _+_, _*_, _≤_, _<_};
+ghost use Rattle.form.specs.Place.{start};
+ghost use Rattle.reader.specs.Entries.{viewFrom, itemAt, openAnswer, openPart};
 use form::Step;
 use form::bytes::byte;
 use form::bytes::count_at;
 use form::entry::width;
-use form::place::start;
 use form::whole::whole;
 
 // What stands next: an entry's section, place and length, or that there is none. A view is one entry, its count included.
@@ -23,37 +23,27 @@ pub struct Reader<'a> {
     pub at: usize,
 }
 
-// The first entry of section `k` at or after `at`.
-fn entry_from(s: &[u8], at: usize, k: u16) -> Item
-    requires { ⌜ (2 ≤ k) × (k < 9) ⌝ }
-    ensures { λ r. ⌜ r ≡ entryFrom (now (s .entry)) at k ⌝ }
+// Among entries of `len` bytes that stand one after the other from `base` on, the number of the first at or after `at`.
+fn number_from(at: usize, base: usize, len: usize) -> usize
+    requires { ⌜ 0 < len ⌝ }
+    ensures reached { λ r. ⌜ at ≤ base + r * len ⌝ }
+    ensures before { λ r. ⌜ ((j : ℕ) → j < r → base + j * len < at) ⌝ }
 {
-    let first = start(s, k);
-    let count = count_at(s, first);
-    let len = width(k);
-    let mut i: usize = 0;
-    let mut place = first + 2;
-    while i < count {
-        if at <= place {
-            return Item::Entry {
-                section: k,
-                at: place,
-                len: len,
-            };
-        }
-        place = place + len;
-        i = i + 1;
+    if at <= base {
+        return 0;
     }
-    Item::Done
+    (at - base - 1) / len + 1
 }
 
-// The first view at or after `at`: there is one for each processor, whatever section 9's own count says.
-fn view_from(s: &[u8], at: usize) -> Item
+// The first view at or after `at`, where section 9 starts at `first`: there is one for each processor, whatever the section's own
+// count says.
+fn view_from(s: &[u8], at: usize, first: usize) -> Item
+    requires { ⌜ (first ≡ start (now s) 9) × (first ≤ 9 * 786422) ⌝ }
     ensures { λ r. ⌜ r ≡ viewFrom (now (s .entry)) at ⌝ }
 {
     let processors = byte(s, 1);
     let mut p: usize = 0;
-    let mut view = start(s, 9) + 2;
+    let mut view = first + 2;
     while p < processors {
         let len = 2 + count_at(s, view);
         if at <= view {
@@ -69,29 +59,30 @@ fn view_from(s: &[u8], at: usize) -> Item
     Item::Done
 }
 
-// The first entry at or after `at`, for any byte string.
+// The first entry at or after `at`, for any byte string. A section that ends at or before `at` is passed by its count alone.
 pub fn item_at(s: &[u8], at: usize) -> Item
     ensures { λ r. ⌜ r ≡ itemAt (now (s .entry)) at ⌝ }
 {
     let mut k: u16 = 2;
+    let mut first: usize = 2;
     while k < 9 {
-        match entry_from(s, at, k) {
-            Item::Entry {
-                section,
-                at: place,
-                len,
-            } => {
+        let count = count_at(s, first);
+        let len = width(k);
+        let end = first + 2 + count * len;
+        if at < end {
+            let i = number_from(at, first + 2, len);
+            if i < count {
                 return Item::Entry {
-                    section: section,
-                    at: place,
+                    section: k,
+                    at: first + 2 + i * len,
                     len: len,
                 };
             }
-            Item::Done => {}
         }
+        first = end;
         k = k + 1;
     }
-    view_from(s, at)
+    view_from(s, at, first)
 }
 
 // The answer of reading, and what a reader may be opened over: the record itself, or no bytes where it is refused.

@@ -39,3 +39,10 @@ pub struct Verdict {
     pub answer: u16,
     pub count: usize,
 }
+
+// What the view question finds: its answer, and where the event numbers stand and how many there are.
+pub struct Found {
+    pub answer: u16,
+    pub from: usize,
+    pub len: usize,
+}

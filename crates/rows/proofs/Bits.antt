@@ -1,5 +1,5 @@
 -- Bits of a word: what the operators make of them.
-use Prim.Native.Nat.{ℕ, zero, suc, _+_, _-_, _*_, _/_, _%_, _^_, _<_, min, max}
+use Prim.Native.Nat.{ℕ, zero, suc, _+_, _-_, _*_, _/_, _%_, _^_, _<_, _≤_, min, max}
 use mathlib.Core.Path.{_≡_, refl, sym, ap, ap₂, _∙_, subst}
 use mathlib.Core.Logic.{_⊎_, inl, inr}
 use native.Mathlib.Omega.{arith}
@@ -9,8 +9,8 @@ use native.Mathlib.Numerals.{one-add}
 use lib.Pow.{pow-pos, pow-lt, pow-add, shl-shr, shr-shr, shl-exact, high}
 use lib.Dec.{lit<}
 use lib.Arith.{lt-one}
-use lib.Bits.{bitAnd, bitOr, and-shr, or-shr, and-step, or-step, bitXor, differ, xor-step, xor-shr, and-mask, block-half, block-odd}
-use lib.Count.{ones, trailingZeros, under, ones-step}
+use lib.Bits.{bitAnd, bitOr, and-shr, or-shr, and-step, or-step, bitXor, differ, xor-step, xor-shr, xor-comm, xor-add-and, and-mask, block-half, block-odd}
+use lib.Count.{ones, leadingZeros, trailingZeros, under, ones-step, leading-top}
 use Rattle.order.specs.Least.{Some, Counted}
 use Rattle.rows.specs.Members.{bit}
 
@@ -228,3 +228,18 @@ bit-low (suc w) (suc k) hi lo h =
 
 pub bit-mod : (w n k : ℕ) → k < n → bit (w % 2 ^ n) k ≡ bit w k
 bit-mod w n k h = sym (bit-low n k (w / 2 ^ n) (w % 2 ^ n) h) ∙ ap (λ (x : ℕ). bit x k) (div-add-mod' w (2 ^ n))
+
+-- ---- the greatest member
+
+on-top : (j w : ℕ) → 2 ^ j ≤ w → w < 2 ^ suc j → On w j
+on-top zero w l h = bit-zero w ∙ omega arith
+on-top (suc j) w l h = bit-suc w j ∙ on-top j (w / 2) (omega (arith, pow-suc 2 j)) (half-lt w (suc j) h)
+
+pub leading-last : (n w : ℕ) → 0 < w → w < 2 ^ n → (j : ℕ) × (leadingZeros n w + suc j ≡ n) × On w j × ((k : ℕ) → On w k → k ≤ j)
+leading-last n w p h =
+    let (j, e, l, u) = leading-top n w p h in
+    (j, e, on-top j w l u, λ k i. let b = on-lt (suc j) w k u i in omega arith)
+
+-- 63 ^ x
+pub mirror : (x : ℕ) → x < 64 → bitXor 63 x + x ≡ 63
+mirror x h = omega (arith, xor-add-and x 63, xor-comm x 63, and-mask x 6)

@@ -10,15 +10,15 @@ use lib.Dec.{eqb}
 use borrow.Author.Tests.{eqb-true, eqb-false, not-true, not-false}
 use lib.Pow.{ones-lt, pow-pos}
 use lib.Bits.{bitAnd, bitOr, bitXor, differ, and-le-l, and-le-r}
-use lib.Count.{ones, trailingZeros, trailing-le, trailing-of-zero}
+use lib.Count.{ones, leadingZeros, trailingZeros, trailing-le, trailing-of-zero}
 use Rattle.order.specs.Decides.{Decides}
 use Rattle.order.proofs.Searches.{found-less}
 use Rattle.order.proofs.Tests.{by-as}
 use Rattle.order.specs.Least.{Hit, Counted}
 use Rattle.order.proofs.Numbers.{counted-as}
-use Rattle.rows.specs.Members.{bit, In, Is, Member, Meet, value}
+use Rattle.rows.specs.Members.{bit, In, Is, Member, Meet, Greatest, value}
 use Rattle.rows.specs.declared.Set.{Set}
-use Rattle.rows.proofs.Bits.{On, bit-lt, bit-mod, bit-of-zero, dec-on, ext, bit-and, bit-xor, differ-zero, test-bit, bit-pow-same, trailing-first, ones-counted, on-pos, some-on, out-same, out-other, on-or, or-on, on-and, and-on, pow-on, on-full, on-lt}
+use Rattle.rows.proofs.Bits.{On, bit-lt, bit-mod, bit-of-zero, dec-on, ext, bit-and, bit-xor, differ-zero, test-bit, bit-pow-same, trailing-first, ones-counted, on-pos, some-on, out-same, out-other, on-or, or-on, on-and, and-on, pow-on, on-full, on-lt, leading-last, mirror}
 
 abbrev pub word : ℕ → Set
 word w = record { word = w }
@@ -202,3 +202,10 @@ first-hit w h = go (ℕ-discrete w 0)
           none = λ k l p. let e = p .1 in omega (arith, f .2 k l);
           hit = λ l. (f .0, f .1);
         }
+
+pub last-greatest : (w : ℕ) → w < 2 ^ 64 → Member (word w) → Greatest (word w) (bitXor 63 (leadingZeros 64 w))
+unfolding In
+last-greatest w h (m, i) =
+    let (j, e, p, f) = leading-last 64 w (on-pos w m (i .1)) h in
+    let z : bitXor 63 (leadingZeros 64 w) ≡ j = omega (arith, mirror (leadingZeros 64 w) (omega arith)) in
+    rw z ((omega arith, p), λ k q. f k (q .1))

@@ -1,5 +1,5 @@
 -- The members of a set.
-use Prim.Native.Nat.{ℕ, _<_, _/_, _%_, _^_}
+use Prim.Native.Nat.{ℕ, _<_, _≤_, _/_, _%_, _^_}
 use mathlib.Core.Path.{_≡_}
 use Rattle.rows.specs.declared.Set.{Set}
 
@@ -17,6 +17,10 @@ Member s = (k : ℕ) × In s k
 -- x and y have a member in common
 abbrev pub Meet : Set → Set → Type 0
 Meet x y = (k : ℕ) × In x k × In y k
+
+-- m is the greatest member of s
+abbrev pub Greatest : Set → ℕ → Type 0
+Greatest s m = In s m × ((k : ℕ) → In s k → k ≤ m)
 
 -- the members of s are the numbers with P
 pub record Is (s : Set) (P : ℕ → Type 0) : Type 0 where

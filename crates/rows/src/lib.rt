@@ -7,7 +7,7 @@ ghost use mathlib.Core.List.{_++_};
 ghost use lib.ListN.{take, drop};
 ghost use Rattle.order.specs.Decides.{Decides};
 ghost use Rattle.order.specs.Least.{Hit, Counted};
-ghost use Rattle.rows.specs.Members.{In, Is, Member, Meet};
+ghost use Rattle.rows.specs.Members.{In, Is, Member, Meet, Greatest};
 ghost use Rattle.rows.specs.Table.{HasRow, HasRows, rel, Adds};
 
 // A set of events below 64.
@@ -117,6 +117,14 @@ pub fn first(s: Set) -> usize
     ensures { λ r. ⌜ Hit 64 (In s) r ⌝ }
 {
     u64::trailing_zeros(s.word) as usize
+}
+
+// The greatest member of a set that has one.
+pub fn last(s: Set) -> usize
+    requires { ⌜ Member s ⌝ }
+    ensures { λ r. ⌜ Greatest s r ⌝ }
+{
+    (63 ^ u64::leading_zeros(s.word)) as usize
 }
 
 // Row a: the events to which a has a step.

@@ -2,24 +2,10 @@
 //! writes the records, each after its length in two bytes, and `check_cases
 //! expected` what is to be said of them.
 
-use plain::sample::{event, overwritten, s1, s2, torn, Record, READ, STORE, WRITE};
+use plain::sample::{event, overwritten, s1, s2, torn, Record, READ, WRITE};
+use plain::shapes::stores;
 use plain::{check, order_table, EVIDENCE_ENTRIES};
 use std::io::Write;
-
-/// One processor stores `n` times, each time by an instruction of its own, the
-/// first `g` of which are locked.
-fn stores(n: usize, g: usize) -> Record {
-    let numbers: Vec<u8> = (0..n as u8).collect();
-    Record {
-        processors: 1,
-        events: (0..n).map(|i| event(0, STORE, i as u16, 4 * i as u32, 1)).collect(),
-        locked: (0..g).map(|i| (0, i as u16)).collect(),
-        store_order: numbers.clone(),
-        locked_order: (0..g as u8).collect(),
-        views: vec![numbers],
-        ..Record::default()
-    }
-}
 
 /// One instruction that reads and writes a register, in no order.
 fn unordered() -> Record {

@@ -2,34 +2,22 @@
 //! them, each after the lengths of its record and of its list, in two bytes
 //! each, and `replay_cases expected` what is to be said of them.
 
-use plain::sample::{s1, s2, torn, Record};
+use plain::sample::{orders_of_four, s1, s2, torn, Record};
+use plain::shapes::stores;
 use plain::{check, read_off, replay, EVIDENCE_ENTRIES, LONGEST_RECORD};
 use std::io::Write;
 
 type Case = (Vec<u8>, Vec<u16>);
 
-/// All orders of 0 to 3, the least first.
-fn orders() -> Vec<Vec<u16>> {
-    let mut orders = Vec::new();
-    for number in 0..256u16 {
-        let list: Vec<u16> = (0..4).map(|place| number >> (6 - 2 * place) & 3).collect();
-        if (0..4).all(|e| list.contains(&e)) {
-            orders.push(list);
-        }
-    }
-    orders
-}
-
-/// 64 stores of one processor.
-fn stores() -> Record {
-    let events = (0..64).map(|i| plain::sample::event(0, 1, i, 4 * i as u32, 1)).collect();
-    Record { processors: 1, events, views: vec![vec![]], ..Record::default() }
+/// 64 stores of one processor, without a witness.
+fn no_witness() -> Record {
+    Record { store_order: vec![], views: vec![vec![]], ..stores(64, 0) }
 }
 
 fn cases() -> Vec<Case> {
     let mut cases: Vec<Case> = Vec::new();
     for record in [s1(), s2()] {
-        for order in orders() {
+        for order in orders_of_four() {
             cases.push((record.bytes(), order));
         }
     }
@@ -52,8 +40,8 @@ fn cases() -> Vec<Case> {
         cases.push((torn().bytes(), list.to_vec()));
     }
     let all: Vec<u16> = (0..64).collect();
-    cases.push((stores().bytes(), all.clone()));
-    cases.push((stores().bytes(), all.iter().rev().copied().collect()));
+    cases.push((no_witness().bytes(), all.clone()));
+    cases.push((no_witness().bytes(), all.iter().rev().copied().collect()));
     let bad = Record { locked: vec![(0, 7)], ..s1() };
     cases.push((bad.bytes(), vec![]));
     let no_initial = Record { initial: vec![], ..s1() };

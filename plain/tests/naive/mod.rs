@@ -358,80 +358,147 @@ fn extend(
     false
 }
 
-/// Refuses if there is evidence.
-fn refuse(answer: u16, evidence: Option<Vec<usize>>) -> Result<(), Refused> {
-    match evidence {
-        Some(evidence) => Err((answer, evidence)),
-        None => Ok(()),
-    }
+/// A rule on records: its answer, and what it shows where it is broken.
+type Rule = (u16, fn(&Record) -> Option<Vec<usize>>);
+
+const STRUCTURE_RULES: [Rule; 5] = [
+    (10, Record::joined_instructions),
+    (11, |record| shortest_cycle(record.n(), |a, b| record.causes(a, b))),
+    (12, Record::unordered_registers),
+    (13, Record::locked_nothing),
+    (14, Record::locked_again),
+];
+
+const WITNESS_RULES: [Rule; 4] = [
+    (20, Record::wrong_view),
+    (21, Record::wrong_store_order),
+    (22, Record::wrong_locked_order),
+    (23, Record::unfit_source),
+];
+
+const AXIOMS: [Rule; 4] = [
+    (24, Record::cycle_in_view),
+    (25, Record::overwritten),
+    (26, Record::unsourced),
+    (27, Record::locked_broken_up),
+];
+
+/// A rule on the record and a list that holds each event once.
+type ListRule = (u16, fn(&Record, &[usize]) -> Option<Vec<usize>>);
+
+const LIST_RULES: [ListRule; 3] =
+    [(31, Record::broken_up), (32, Record::out_of_order), (33, Record::wrong_value)];
+
+/// The first refusal, of rules that are judged in turn.
+fn first_refusal(
+    mut judged: impl Iterator<Item = (u16, Option<Vec<usize>>)>,
+) -> Result<(), Refused> {
+    let found = judged.find_map(|(answer, shown)| shown.map(|shown| (answer, shown)));
+    found.map_or(Ok(()), Err)
+}
+
+fn one(found: Option<usize>) -> Option<Vec<usize>> {
+    found.map(|number| vec![number])
 }
 
 impl Record {
+    fn first_broken(&self, rules: &[Rule]) -> Result<(), Refused> {
+        first_refusal(rules.iter().map(|(answer, rule)| (*answer, rule(self))))
+    }
+
     /// Rules 10 to 14.
     pub fn structure(&self) -> Result<(), Refused> {
+        self.first_broken(&STRUCTURE_RULES)
+    }
+
+    /// Rules 20 to 23.
+    pub fn witness_rules(&self) -> Result<(), Refused> {
+        self.first_broken(&WITNESS_RULES)
+    }
+
+    /// Rules 24 to 27.
+    pub fn axioms(&self) -> Result<(), Refused> {
+        self.first_broken(&AXIOMS)
+    }
+
+    /// Every rule of the check that is broken, each judged by itself.
+    pub fn broken(&self) -> Vec<u16> {
+        let rules = STRUCTURE_RULES.iter().chain(&WITNESS_RULES).chain(&AXIOMS);
+        let broken = rules.filter(|(_, rule)| rule(self).is_some());
+        broken.map(|rule| rule.0).collect()
+    }
+
+    /// Of 31 to 33 every rule that a list of each event once breaks.
+    pub fn broken_by(&self, list: &[usize]) -> Vec<u16> {
+        let broken = LIST_RULES.iter().filter(|(_, rule)| rule(self, list).is_some());
+        broken.map(|rule| rule.0).collect()
+    }
+
+    fn joined_instructions(&self) -> Option<Vec<usize>> {
+        let joining = self.causality.iter().find(|&&(a, b)| !self.same_instruction(a, b));
+        joining.map(|&(a, b)| vec![a, b])
+    }
+
+    fn unordered_registers(&self) -> Option<Vec<usize>> {
         let n = self.n();
-        let joins = self.causality.iter().find(|&&(a, b)| !self.same_instruction(a, b));
-        refuse(10, joins.map(|&(a, b)| vec![a, b]))?;
-        refuse(11, shortest_cycle(n, |a, b| self.causes(a, b)))?;
         for a in 0..n {
             for b in a + 1..n {
                 let one_register =
                     !self.is_memory(a) && self.same_place(a, b) && self.same_instruction(a, b);
                 let writing = self.is_write(a) || self.is_write(b);
                 if one_register && writing && !self.causes(a, b) && !self.causes(b, a) {
-                    return Err((12, vec![a, b]));
+                    return Some(vec![a, b]);
                 }
             }
         }
-        let g = self.locked.len();
-        let empty = (0..g).find(|&entry| !(0..n).any(|e| self.names(entry, e)));
-        refuse(13, empty.map(|entry| vec![entry]))?;
-        let repeats = (0..g).find(|&entry| self.locked[..entry].contains(&self.locked[entry]));
-        refuse(14, repeats.map(|entry| vec![entry]))
+        None
     }
 
-    /// Rules 20 to 23.
-    pub fn witness_rules(&self) -> Result<(), Refused> {
-        let n = self.n();
-        for p in 0..self.processors {
-            let wrong = least_wrong(&self.views[p], n, |e| self.sees(p, e));
-            refuse(20, wrong.map(|e| vec![p, e]))?;
-        }
-        let wrong = least_wrong(&self.store_order, n, |e| self.is_store(e));
-        refuse(21, wrong.map(|e| vec![e]))?;
-        let wrong = least_wrong(&self.locked_order, self.locked.len(), |_| true);
-        refuse(22, wrong.map(|entry| vec![entry]))?;
+    fn locked_nothing(&self) -> Option<Vec<usize>> {
+        let empty = |&entry: &usize| !(0..self.n()).any(|e| self.names(entry, e));
+        one((0..self.locked.len()).find(empty))
+    }
+
+    fn locked_again(&self) -> Option<Vec<usize>> {
+        let repeats = |&entry: &usize| self.locked[..entry].contains(&self.locked[entry]);
+        one((0..self.locked.len()).find(repeats))
+    }
+
+    fn wrong_view(&self) -> Option<Vec<usize>> {
+        (0..self.processors).find_map(|p| {
+            let wrong = least_wrong(&self.views[p], self.n(), |e| self.sees(p, e));
+            wrong.map(|e| vec![p, e])
+        })
+    }
+
+    fn wrong_store_order(&self) -> Option<Vec<usize>> {
+        one(least_wrong(&self.store_order, self.n(), |e| self.is_store(e)))
+    }
+
+    fn wrong_locked_order(&self) -> Option<Vec<usize>> {
+        one(least_wrong(&self.locked_order, self.locked.len(), |_| true))
+    }
+
+    fn unfit_source(&self) -> Option<Vec<usize>> {
         let unfit = self.reads_from.iter().find(|&&(w, r)| {
             !(self.is_write(w)
                 && self.is_read(r)
                 && self.same_place(w, r)
                 && self.events[w].value == self.events[r].value)
         });
-        refuse(23, unfit.map(|&(w, r)| vec![w, r]))
+        unfit.map(|&(w, r)| vec![w, r])
     }
 
-    /// Rules 24 to 27.
-    pub fn axioms(&self) -> Result<(), Refused> {
-        let n = self.n();
-        for p in 0..self.processors {
-            let cycle = shortest_cycle(n, |a, b| {
+    fn cycle_in_view(&self) -> Option<Vec<usize>> {
+        (0..self.processors).find_map(|p| {
+            let cycle = shortest_cycle(self.n(), |a, b| {
                 stands_before(&self.views[p], a, b) || self.happens_before(a, b)
             });
-            if let Some(cycle) = cycle {
-                return Err((24, [vec![p], cycle].concat()));
-            }
-        }
-        self.overwritten()?;
-        self.unsourced()?;
-        for p in 0..self.processors {
-            if let Some(shown) = self.broken_up(&self.views[p]) {
-                return Err((27, [vec![p], shown].concat()));
-            }
-        }
-        Ok(())
+            cycle.map(|cycle| [vec![p], cycle].concat())
+        })
     }
 
-    fn overwritten(&self) -> Result<(), Refused> {
+    fn overwritten(&self) -> Option<Vec<usize>> {
         let n = self.n();
         for p in 0..self.processors {
             let view = &self.views[p];
@@ -444,16 +511,16 @@ impl Record {
                     for x in 0..n {
                         let another = x != w && self.is_write(x) && self.same_place(x, w);
                         if another && stands_before(view, w, x) && stands_before(view, x, r) {
-                            return Err((25, vec![p, w, r, x]));
+                            return Some(vec![p, w, r, x]);
                         }
                     }
                 }
             }
         }
-        Ok(())
+        None
     }
 
-    fn unsourced(&self) -> Result<(), Refused> {
+    fn unsourced(&self) -> Option<Vec<usize>> {
         let n = self.n();
         for p in 0..self.processors {
             for r in 0..n {
@@ -462,21 +529,26 @@ impl Record {
                     continue;
                 }
                 match self.initial_value(r) {
-                    None => return Err((26, vec![p, r, 0])),
-                    Some(value) if value != self.events[r].value => {
-                        return Err((26, vec![p, r, 1]));
-                    }
+                    None => return Some(vec![p, r, 0]),
+                    Some(value) if value != self.events[r].value => return Some(vec![p, r, 1]),
                     _ => {}
                 }
                 for x in 0..n {
                     let written = self.is_write(x) && self.same_place(x, r);
                     if written && stands_before(&self.views[p], x, r) {
-                        return Err((26, vec![p, r, 2, x]));
+                        return Some(vec![p, r, 2, x]);
                     }
                 }
             }
         }
-        Ok(())
+        None
+    }
+
+    fn locked_broken_up(&self) -> Option<Vec<usize>> {
+        (0..self.processors).find_map(|p| {
+            let shown = self.broken_up(&self.views[p]);
+            shown.map(|shown| [vec![p], shown].concat())
+        })
     }
 
     fn broken_up(&self, list: &[usize]) -> Option<Vec<usize>> {
@@ -519,25 +591,34 @@ impl Record {
 
     /// Rules 32 and 33.
     pub fn replay_rules(&self, list: &[usize]) -> Result<(), Refused> {
+        let rules = LIST_RULES.iter().filter(|rule| rule.0 != 31);
+        first_refusal(rules.map(|(answer, rule)| (*answer, rule(self, list))))
+    }
+
+    fn out_of_order(&self, list: &[usize]) -> Option<Vec<usize>> {
         let n = self.n();
         for a in 0..n {
             for b in 0..n {
                 let before = self.causes(a, b) || self.preserved(a, b);
                 if before && stands_before(list, b, a) {
-                    return Err((32, vec![a, b]));
+                    return Some(vec![a, b]);
                 }
             }
         }
+        None
+    }
+
+    fn wrong_value(&self, list: &[usize]) -> Option<Vec<usize>> {
         for (i, &r) in list.iter().enumerate() {
             let held = match self.last_write(list, i) {
                 Some(w) => Some(self.events[w].value),
                 None => self.initial_value(r),
             };
             if self.is_read(r) && held != Some(self.events[r].value) {
-                return Err((33, vec![r]));
+                return Some(vec![r]);
             }
         }
-        Ok(())
+        None
     }
 
     /// The last write before a position of the place of the event there.
@@ -657,7 +738,7 @@ pub fn order_table(record: &[u8], room: usize) -> (u16, Vec<u64>) {
     (0, (0..n).map(row).collect())
 }
 
-pub fn view(record: &[u8], p: u8) -> (u16, Vec<u8>) {
+pub fn view(record: &[u8], p: u16) -> (u16, Vec<u8>) {
     match read(record) {
         Err((answer, _)) => (answer, vec![]),
         Ok(record) if p as usize >= record.processors => (4, vec![]),

@@ -42,13 +42,13 @@ common-requires c κs = search needs
 any-requires-2 : tie.Need-any-requires-2 Inv-loop μ-loop
 any-requires-2 c κs = search needs
 
-first-requires-2 : tie.Need-first-requires-2 Inv-loop μ-loop
-first-requires-2 c κs = search needs
+last-requires : tie.Need-last-requires Inv-loop μ-loop
+last-requires c κs = c .before .any2 .ensures .holds (c .if2 .taken)
 
 row-requires-2 : tie.Need-row-requires-2 Inv-loop μ-loop
 row-requires-2 c κs = let f = c in
     let l = f .before .before .before .before .before in
-    let h = next-in _ _ _ _ (f .before .before .before .before .row .ensures) _ (f .before .before .before .common .ensures) (f .before .before .any2 .ensures .holds (f .before .if2 .taken)) _ (f .first2 .ensures) in
+    let h = next-in _ _ _ _ (f .before .before .before .before .row .ensures) _ (f .before .before .before .common .ensures) _ (f .last .ensures .0) in
     l .before .before .before .before .before .pre _ (l .loop .inv .low _ (h .0))
 
 meets-requires : tie.Need-meets-requires Inv-loop μ-loop
@@ -57,45 +57,45 @@ meets-requires c κs = search needs
 without-requires : tie.Need-without-requires Inv-loop μ-loop
 without-requires c κs = let f = c .before .before .before in
     let l = f .before .before .before .before .before in
-    let h = next-in _ _ _ _ (f .before .before .before .before .row .ensures) _ (f .before .before .before .common .ensures) (f .before .before .any2 .ensures .holds (f .before .if2 .taken)) _ (f .first2 .ensures) in
+    let h = next-in _ _ _ _ (f .before .before .before .before .row .ensures) _ (f .before .before .before .common .ensures) _ (f .last .ensures .0) in
     h .0
 
 loop-less : tie.Need-loop-less Inv-loop μ-loop
 loop-less c = let f = c .before .before .before .before in
     let l = f .before .before .before .before .before in
-    let h = next-in _ _ _ _ (f .before .before .before .before .row .ensures) _ (f .before .before .before .common .ensures) (f .before .before .any2 .ensures .holds (f .before .if2 .taken)) _ (f .first2 .ensures) in
+    let h = next-in _ _ _ _ (f .before .before .before .before .row .ensures) _ (f .before .before .before .common .ensures) _ (f .last .ensures .0) in
     let d = dig-less _ _ _ _ _ (l .loop .inv) _ (h .0) (no-meet _ _ _ _ (c .before .before .before .row2 .ensures) (c .before .before .meets .ensures .fails (not-true _ (c .before .if3 .taken)))) _ (c .without .ensures) in
     omega arith
 
 loop-again : tie.Need-loop-again Inv-loop μ-loop
 loop-again c = let f = c .before .before .before .before in
     let l = f .before .before .before .before .before in
-    let h = next-in _ _ _ _ (f .before .before .before .before .row .ensures) _ (f .before .before .before .common .ensures) (f .before .before .any2 .ensures .holds (f .before .if2 .taken)) _ (f .first2 .ensures) in
+    let h = next-in _ _ _ _ (f .before .before .before .before .row .ensures) _ (f .before .before .before .common .ensures) _ (f .last .ensures .0) in
     dig-leaf _ _ _ _ _ (l .loop .inv) _ (h .0) (h .1) (no-meet _ _ _ _ (c .before .before .before .row2 .ensures) (c .before .before .meets .ensures .fails (not-true _ (c .before .if3 .taken)))) _ (c .without .ensures)
 
 array-read-if4 : tie.Need-array-read-if4 Inv-loop μ-loop
 array-read-if4 c = let f = c .before .before .before in
     let l = f .before .before .before .before .before in
-    let h = next-in _ _ _ _ (f .before .before .before .before .row .ensures) _ (f .before .before .before .common .ensures) (f .before .before .any2 .ensures .holds (f .before .if2 .taken)) _ (f .first2 .ensures) in
+    let h = next-in _ _ _ _ (f .before .before .before .before .row .ensures) _ (f .before .before .before .common .ensures) _ (f .last .ensures .0) in
     in-low _ _ (h .0)
 
 cast-from-2 : tie.Need-cast-from-2 Inv-loop μ-loop
 cast-from-2 c = let f = c .before .before .before .before in
     let l = f .before .before .before .before .before in
-    let h = next-in _ _ _ _ (f .before .before .before .before .row .ensures) _ (f .before .before .before .common .ensures) (f .before .before .any2 .ensures .holds (f .before .if2 .taken)) _ (f .first2 .ensures) in
+    let h = next-in _ _ _ _ (f .before .before .before .before .row .ensures) _ (f .before .before .before .common .ensures) _ (f .last .ensures .0) in
     let m = in-low _ _ (l .loop .inv .here) in
     omega arith
 
 array-write-from-2 : tie.Need-array-write-from-2 Inv-loop μ-loop
 array-write-from-2 c = let f = c .before .before .before .before in
     let l = f .before .before .before .before .before in
-    let h = next-in _ _ _ _ (f .before .before .before .before .row .ensures) _ (f .before .before .before .common .ensures) (f .before .before .any2 .ensures .holds (f .before .if2 .taken)) _ (f .first2 .ensures) in
+    let h = next-in _ _ _ _ (f .before .before .before .before .row .ensures) _ (f .before .before .before .common .ensures) _ (f .last .ensures .0) in
     in-low _ _ (h .0)
 
 loop-less-2 : tie.Need-loop-less-2 Inv-loop μ-loop
 loop-less-2 c = let f = c .before .before .before .before in
     let l = f .before .before .before .before .before in
-    let h = next-in _ _ _ _ (f .before .before .before .before .row .ensures) _ (f .before .before .before .common .ensures) (f .before .before .any2 .ensures .holds (f .before .if2 .taken)) _ (f .first2 .ensures) in
+    let h = next-in _ _ _ _ (f .before .before .before .before .row .ensures) _ (f .before .before .before .common .ensures) _ (f .last .ensures .0) in
     let m = in-low _ _ (l .loop .inv .here) in
     let k = in-low _ _ (h .0) in
     let s = l .loop .inv .same in
@@ -105,13 +105,13 @@ loop-less-2 c = let f = c .before .before .before .before in
 loop-again-2 : tie.Need-loop-again-2 Inv-loop μ-loop
 loop-again-2 c = let f = c .before .before .before .before in
     let l = f .before .before .before .before .before in
-    let h = next-in _ _ _ _ (f .before .before .before .before .row .ensures) _ (f .before .before .before .common .ensures) (f .before .before .any2 .ensures .holds (f .before .if2 .taken)) _ (f .first2 .ensures) in
+    let h = next-in _ _ _ _ (f .before .before .before .before .row .ensures) _ (f .before .before .before .common .ensures) _ (f .last .ensures .0) in
     dig-on _ _ _ _ _ (l .loop .inv) _ (h .0) (h .1) (c .if4 .taken)
 
 returns-2 : tie.Need-returns-2 Inv-loop μ-loop
 returns-2 c = let f = c .before .before .before .before in
     let l = f .before .before .before .before .before in
-    let h = next-in _ _ _ _ (f .before .before .before .before .row .ensures) _ (f .before .before .before .common .ensures) (f .before .before .any2 .ensures .holds (f .before .if2 .taken)) _ (f .first2 .ensures) in
+    let h = next-in _ _ _ _ (f .before .before .before .before .row .ensures) _ (f .before .before .before .common .ensures) _ (f .last .ensures .0) in
     dig-found _ _ _ _ _ (l .loop .inv) _ (h .0) (h .1) (c .if4 .left)
 
 without-requires-2 : tie.Need-without-requires-2 Inv-loop μ-loop
@@ -123,15 +123,15 @@ array-read-wide c = in-low _ _ (c .before .before .before .before .before .loop 
 wide-requires : tie.Need-wide-requires Inv-loop μ-loop
 wide-requires c κs = search needs
 
-first-requires-3 : tie.Need-first-requires-3 Inv-loop μ-loop
-first-requires-3 c κs = search needs
+first-requires-2 : tie.Need-first-requires-2 Inv-loop μ-loop
+first-requires-2 c κs = search needs
 
 returns-3 : tie.Need-returns-3 Inv-loop μ-loop
 returns-3 c = let u = c .before .before .before .before in
     let l = u .before .before .before .before .before in
     let g = no-next _ _ _ _ (u .before .before .before .before .row .ensures) _ (u .before .before .before .common .ensures) (u .before .before .any2 .ensures .fails (u .before .if2 .left)) in
     let e = (dig-end _ _ _ _ _ (l .loop .inv) g _ (u .without2 .ensures) (rw (c .before .before .before .wide .ensures) at (c .before .before .if5 .taken))) in
-    fresh-done _ _ _ _ e (hit-none _ _ (c .before .first3 .ensures) (c .if6 .taken))
+    fresh-done _ _ _ _ e (hit-none _ _ (c .before .first2 .ensures) (c .if6 .taken))
 
 cast-from-3 : tie.Need-cast-from-3 Inv-loop μ-loop
 cast-from-3 c = let z = c .if6 .left in omega arith
@@ -145,14 +145,14 @@ loop-less-3 c = let u = c .before .before .before .before in
     let g = no-next _ _ _ _ (u .before .before .before .before .row .ensures) _ (u .before .before .before .common .ensures) (u .before .before .any2 .ensures .fails (u .before .if2 .left)) in
     let d = dig-less _ _ _ _ _ (l .loop .inv) _ (l .loop .inv .here) g _ (u .without2 .ensures) in
     let s = l .loop .inv .same in
-    omega (arith, free-most (set (l .loop .from) (c .before .first3 .result) (c .before .first3 .result)), length-set (l .loop .from) (c .before .first3 .result) (c .before .first3 .result))
+    omega (arith, free-most (set (l .loop .from) (c .before .first2 .result) (c .before .first2 .result)), length-set (l .loop .from) (c .before .first2 .result) (c .before .first2 .result))
 
 loop-again-3 : tie.Need-loop-again-3 Inv-loop μ-loop
 loop-again-3 c = let u = c .before .before .before .before in
     let l = u .before .before .before .before .before in
     let g = no-next _ _ _ _ (u .before .before .before .before .row .ensures) _ (u .before .before .before .common .ensures) (u .before .before .any2 .ensures .fails (u .before .if2 .left)) in
     let z = c .if6 .left in
-    fresh-start _ _ _ _ (dig-end _ _ _ _ _ (l .loop .inv) g _ (u .without2 .ensures) (rw (c .before .before .before .wide .ensures) at (c .before .before .if5 .taken))) _ (c .before .first3 .ensures .hit (omega arith))
+    fresh-start _ _ _ _ (dig-end _ _ _ _ _ (l .loop .inv) g _ (u .without2 .ensures) (rw (c .before .before .before .wide .ensures) at (c .before .before .if5 .taken))) _ (c .before .first2 .ensures .hit (omega arith))
 
 loop-less-4 : tie.Need-loop-less-4 Inv-loop μ-loop
 loop-less-4 c = let u = c .before .before in
@@ -182,7 +182,7 @@ dig-spec =
     row-requires
     common-requires
     any-requires-2
-    first-requires-2
+    last-requires
     row-requires-2
     meets-requires
     without-requires
@@ -197,7 +197,7 @@ dig-spec =
     without-requires-2
     array-read-wide
     wide-requires
-    first-requires-3
+    first-requires-2
     returns-3
     cast-from-3
     array-write-from-3

@@ -11,23 +11,20 @@ use Rattle.reader.proofs.view_from.Statement.{statement}
 use Rattle.reader.proofs.view_from.Tie as tie
 
 abbrev Inv-loop : tie.InvT-loop
-Inv-loop s at processors p₀ view₀ p view = Looking (viewOf s) (viewStart s) 65537 at processors p view (viewFrom s at)
+Inv-loop s at first processors p₀ view₀ p view = Looking (viewOf s) (viewStart s) 65537 at processors p view (viewFrom s at)
 
 abbrev μ-loop : tie.MeasureT-loop
-μ-loop s at processors p₀ view₀ p view = processors - p
+μ-loop s at first processors p₀ view₀ p view = processors - p
 
 byte-requires : tie.Need-byte-requires Inv-loop μ-loop
 byte-requires c κs = search needs
-
-start-requires : tie.Need-start-requires Inv-loop μ-loop
-start-requires c κs = search needs
 
 add-view : tie.Need-add-view Inv-loop μ-loop
 add-view c = search needs
 
 loop-holds : tie.Need-loop-holds Inv-loop μ-loop
 unfolding viewStart viewFrom
-loop-holds c = looking _ _ _ _ _ _ _ (cc) (omega arith) (c .before .byte .ensures .0)
+loop-holds c = looking _ _ _ _ _ _ _ (cc) (omega arith) (c .byte .ensures .0)
 
 count-at-requires : tie.Need-count-at-requires Inv-loop μ-loop
 count-at-requires c κs = omega arith
@@ -66,7 +63,6 @@ view-from-spec =
     Inv-loop
     μ-loop
     byte-requires
-    start-requires
     add-view
     loop-holds
     count-at-requires

@@ -1,36 +1,42 @@
-use Prim.Native.Nat.{_+_, _*_, _-_, _≤_}
-use mathlib.Core.Path.{_≡_}
+use Prim.Native.Nat.{_+_, _-_, _≤_}
+use mathlib.Core.Path.{_≡_, ap}
 use native.Mathlib.Omega.{arith}
-use borrow.Author.Needs.{needs}
 use Rattle.form.specs.Place.{viewStart}
 use Rattle.form.proofs.Starts.{viewStart-next}
+use Rattle.record.proofs.Reading.{view-count-small, view-count-fits}
 use Rattle.record.proofs.view.view_start.Statement.{statement}
 use Rattle.record.proofs.view.view_start.Tie as tie
 
 abbrev Inv-loop : tie.InvT-loop
-Inv-loop s p q₀ a₀ q a = (q ≤ p) × (a ≡ viewStart s q) × (a ≤ 8000000 + q * 65537)
+Inv-loop s nine p q₀ a₀ q a = (q ≤ p) × (a ≡ viewStart s q)
 
 abbrev μ-loop : tie.MeasureT-loop
-μ-loop s p q₀ a₀ q a = p - q
-
-start-requires : tie.Need-start-requires Inv-loop μ-loop
-start-requires c κs = search needs
+μ-loop s nine p q₀ a₀ q a = p - q
 
 add-a : tie.Need-add-a Inv-loop μ-loop
-add-a c = omega arith
+unfolding viewStart
+add-a c = let p = c .before .pre in
+    let h = view-count-small _ (p .0) 0 (omega arith) in
+    omega arith
 
 loop-holds : tie.Need-loop-holds Inv-loop μ-loop
 unfolding viewStart
-loop-holds c = (omega arith, (cc), omega arith)
+loop-holds c = (omega arith, ap (λ x. x + 2) (c .before .pre .2))
 
 add-a-2 : tie.Need-add-a-2 Inv-loop μ-loop
-add-a-2 c = omega arith
+add-a-2 c = let p = c .before .before .before .pre in
+    let h = view-count-small _ (p .0) (c .before .loop .q) (omega arith) in
+    omega arith
 
-count-at-requires : tie.Need-count-at-requires Inv-loop μ-loop
-count-at-requires c κs = omega arith
+num2-requires : tie.Need-num2-requires Inv-loop μ-loop
+num2-requires c κs = let p = c .before .before .before .pre in
+    let h = view-count-fits _ (p .0) (c .before .loop .q) (omega arith) in
+    omega arith
 
 add-a-3 : tie.Need-add-a-3 Inv-loop μ-loop
-add-a-3 c = omega arith
+add-a-3 c = let p = c .before .before .before .before .pre in
+    let h = view-count-small _ (p .0) (c .before .before .loop .q) (omega arith) in
+    omega arith
 
 add-q : tie.Need-add-q Inv-loop μ-loop
 add-q c = omega arith
@@ -39,13 +45,10 @@ loop-less : tie.Need-loop-less Inv-loop μ-loop
 loop-less c = omega arith
 
 loop-again : tie.Need-loop-again Inv-loop μ-loop
-loop-again c = let l = c .before .before .loop in
-    (omega arith, cc (viewStart-next _ (l .q)), omega arith)
+loop-again c = (omega arith, cc (viewStart-next _ (c .before .before .loop .q)))
 
 returns : tie.Need-returns Inv-loop μ-loop
-returns c = let l = c .before .loop in
-    let e : l .q ≡ c .before .before .before .before .args .p = omega arith in
-    (cc, omega arith)
+returns c = let e : c .before .loop .q ≡ c .before .before .before .args .p = omega arith in cc
 
 pub view-start-spec : {M : Type 1} → statement M
 view-start-spec =
@@ -53,11 +56,10 @@ view-start-spec =
     (tie.spec
     Inv-loop
     μ-loop
-    start-requires
     add-a
     loop-holds
     add-a-2
-    count-at-requires
+    num2-requires
     add-a-3
     add-q
     loop-less

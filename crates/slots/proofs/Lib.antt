@@ -1,0 +1,9 @@
+pub mod Bounds
+pub mod Initials
+pub mod Judging
+pub mod Rounds
+pub mod Rules
+pub mod Searching
+pub mod Slots
+pub mod Tested
+pub mod Tests
