@@ -46,7 +46,7 @@ least-or a (y ∷ l) = go (least-or a l) (decLt y a)
 
 module _ (R : Rel) where
   -- a cycle can be begun at its least event
-  begun : (n a : ℕ) (l : List ℕ) → a < n → Trail R a l a → (m : List ℕ) × Cycle R m × Begun m × (length m ≡ suc (length l))
+  pub begun : (n a : ℕ) (l : List ℕ) → a < n → Trail R a l a → (m : List ℕ) × Cycle R m × Begun m × (length m ≡ suc (length l))
   begun zero a l h t = absurd (omega arith)
   begun (suc n) a l h t = go (begun n) (least-or a l)
     where
