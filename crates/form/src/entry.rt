@@ -26,16 +26,19 @@ pub fn due(s: &[u8], k: u16, w: usize, at: usize) -> Step
     })
 }
 
-const WIDTHS: [usize; 10] = [1, 1, 12, 2, 4, 12, 1, 1, 2, 1];
+fn wide(x: u8) -> usize
+    ensures { λ r. ⌜ r ≡ x ⌝ }
+{
+    x as usize
+}
 
-const LIMITS: [usize; 10] = [0, 4, 64, 128, 16, 64, 64, 16, 64, 64];
-
-// The bytes of an entry of section `k`.
+// The bytes of an entry of section `k`. A byte string is read where it stands; an array would be built anew at each call.
 pub fn width(k: u16) -> usize
     requires { ⌜ k ≤ 9 ⌝ }
     ensures { λ r. ⌜ r ≡ width k ⌝ }
 {
-    WIDTHS[k as usize]
+    let widths = b"\x01\x01\x0c\x02\x04\x0c\x01\x01\x02\x01";
+    wide(widths[k as usize])
 }
 
 // The most entries of section `k`.
@@ -43,7 +46,8 @@ pub fn limit(k: u16) -> usize
     requires { ⌜ k ≤ 9 ⌝ }
     ensures { λ r. ⌜ r ≡ limit k ⌝ }
 {
-    LIMITS[k as usize]
+    let limits = b"\x00\x04\x40\x80\x10\x40\x40\x10\x40\x40";
+    wide(limits[k as usize])
 }
 
 // Whether a place is one: an address divisible by 4, or a register 0 to 14.
