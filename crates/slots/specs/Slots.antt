@@ -17,15 +17,15 @@ two n = n % 256 ∷ n / 256 ∷ []
 abbrev pub four : ℕ → List ℕ
 four n = two (n % 65536) ++ two (n / 65536)
 
--- a section: its count, then its entries
 abbrev pub joined : List (List ℕ) → List ℕ
 joined [] = []
 joined (x ∷ l) = x ++ joined l
 
+-- a section: its count, then its entries
 abbrev pub section : List (List ℕ) → List ℕ
 section l = two (length l) ++ joined l
 
--- sections of numbers of one byte
+-- a section of numbers of one byte
 abbrev pub numbers : List ℕ → List ℕ
 numbers l = two (length l) ++ l
 
