@@ -11,7 +11,7 @@ use Rattle.model.specs.Rules.{WritesPlace, NoInitial, Initially, WrongInitial}
 abbrev pub WrongFrom : Execution → ℕ → ℕ → Type 0
 WrongFrom z p r = (w : List ℕ) × WrongInitial z (p ∷ r ∷ w)
 
--- 0: r's place has no initial value; 1: it is not r's value; 2: it is
+-- what is told of r: its place has no initial value (0), another (1), or r's value (2), so that only a write before r can be at fault
 abbrev pub Coded : Execution → ℕ → ℕ → Type 0
 Coded z r code =
     ((code ≡ 0) × NoInitial z (z .events .item r))

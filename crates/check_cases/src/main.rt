@@ -2,28 +2,6 @@
 // entries its evidence has and these; the check with a buffer of 64 entries, and what then is in the first; the order table's answer and
 // its words; the order table's answer with room for three words, and these.
 use libc::STDIN_FILENO;
-use libc::STDOUT_FILENO;
-
-fn wide(x: u16) -> u64 {
-    x as u64
-}
-
-fn print_number(x: u64) {
-    io::write_all(STDOUT_FILENO, b" ");
-    io::print_decimal(STDOUT_FILENO, x);
-}
-
-// Prints the first k numbers.
-fn print_list(l: &[u16], k: usize) {
-    let mut i = 0;
-    while i < l.len() {
-        if i == k {
-            return;
-        }
-        print_number(wide(l[i]));
-        i += 1;
-    }
-}
 
 // Prints the words before the first that is 7, with which the table was filled.
 fn print_words(l: &[u64]) {
@@ -32,7 +10,7 @@ fn print_words(l: &[u64]) {
         if l[i] == 7 {
             return;
         }
-        print_number(l[i]);
+        printing::number(l[i]);
         i += 1;
     }
 }
@@ -40,40 +18,33 @@ fn print_words(l: &[u64]) {
 fn print_check(s: &[u8]) {
     let mut ev = [9u16; 65];
     let v = judge::check::check(s, &mut ev);
-    let k = v.count;
-    io::write_all(STDOUT_FILENO, b"check");
-    print_number(wide(v.answer));
-    print_number(k as u64);
-    print_list(&ev, k);
-    io::write_all(STDOUT_FILENO, b"\n");
+    printing::text(b"check");
+    printing::verdict(v.answer, v.count, &ev, v.count);
 }
 
 fn print_short(s: &[u8]) {
     let mut ev = [9u16; 64];
     let v = judge::check::check(s, &mut ev);
-    io::write_all(STDOUT_FILENO, b"short");
-    print_number(wide(v.answer));
-    print_number(v.count as u64);
-    print_list(&ev, 1);
-    io::write_all(STDOUT_FILENO, b"\n");
+    printing::text(b"short");
+    printing::verdict(v.answer, v.count, &ev, 1);
 }
 
 fn print_order(s: &[u8]) {
     let mut out = [7u64; 64];
     let a = table::order_table(s, &mut out);
-    io::write_all(STDOUT_FILENO, b"order");
-    print_number(wide(a));
+    printing::text(b"order");
+    printing::short(a);
     print_words(&out);
-    io::write_all(STDOUT_FILENO, b"\n");
+    printing::text(b"\n");
 }
 
 fn print_tight(s: &[u8]) {
     let mut out = [7u64; 3];
     let a = table::order_table(s, &mut out);
-    io::write_all(STDOUT_FILENO, b"tight");
-    print_number(wide(a));
+    printing::text(b"tight");
+    printing::short(a);
     print_words(&out);
-    io::write_all(STDOUT_FILENO, b"\n");
+    printing::text(b"\n");
 }
 
 fn print_all(s: &[u8]) {

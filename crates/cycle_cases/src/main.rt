@@ -1,11 +1,6 @@
 // The cycle that is shown of some relations, beside the expected one.
 ghost use Prim.Native.Nat.{_≤_, _<_};
 ghost use lib.ListN.{length};
-use libc::STDOUT_FILENO;
-
-fn wide(x: u16) -> u64 {
-    x as u64
-}
 
 // The number that a digit stands for.
 fn digit(b: u8) -> usize
@@ -14,28 +9,11 @@ fn digit(b: u8) -> usize
     (b % 16) as usize
 }
 
-fn print_number(x: u64) {
-    io::write_all(STDOUT_FILENO, b" ");
-    io::print_decimal(STDOUT_FILENO, x);
-}
-
-// Prints the first k numbers.
-fn print_list(l: &[u16], k: usize) {
-    let mut i = 0;
-    while i < l.len() {
-        if i == k {
-            return;
-        }
-        print_number(wide(l[i]));
-        i += 1;
-    }
-}
-
 // Prints the numbers below n.
 fn print_below(n: u64) {
     let mut i = 0;
     while i < n {
-        print_number(i);
+        printing::number(i);
         i += 1;
     }
 }
@@ -45,11 +23,11 @@ fn print_shown(name: &[u8], t: &[u64], n: usize)
     requires { ⌜ (n ≤ 64) × (64 ≤ length (now t)) ⌝ }
 {
     let mut out = [0u16; 64];
-    io::write_all(STDOUT_FILENO, name);
-    io::write_all(STDOUT_FILENO, b": shown");
+    printing::text(name);
+    printing::text(b": shown");
     let k = cycles::show(t, n, &mut out);
-    print_list(&out, k);
-    io::write_all(STDOUT_FILENO, b", expected");
+    printing::list(&out, k);
+    printing::text(b", expected");
 }
 
 // Adds the steps: three bytes each, two digits and a space.
@@ -72,8 +50,8 @@ fn print_case(name: &[u8], n: usize, steps: &[u8], expected: &[u8])
     let mut t = [0u64; 64];
     put_steps(&mut t, steps);
     print_shown(name, &t, n);
-    io::write_all(STDOUT_FILENO, expected);
-    io::write_all(STDOUT_FILENO, b"\n");
+    printing::text(expected);
+    printing::text(b"\n");
 }
 
 // Adds a step from each of 64 events to the next, and from the last to the first.
@@ -103,14 +81,14 @@ fn print_ring() {
     put_ring(&mut t);
     print_shown(b"a ring of 64", &t, 64);
     print_below(64);
-    io::write_all(STDOUT_FILENO, b"\n");
+    printing::text(b"\n");
 }
 
 fn print_order() {
     let mut t = [0u64; 64];
     put_order(&mut t);
     print_shown(b"64 in order", &t, 64);
-    io::write_all(STDOUT_FILENO, b"\n");
+    printing::text(b"\n");
 }
 
 fn main() {

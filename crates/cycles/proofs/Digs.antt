@@ -12,10 +12,10 @@ use Rattle.order.specs.Relation.{Rel}
 use Rattle.order.specs.Walk.{Walk}
 use Rattle.order.proofs.Walks.{peel, snoc}
 use Rattle.order.proofs.Cycles.{walk-cyclic, cyclic-walk}
-use Rattle.rows.specs.Members.{In, Is, Member, Meet, value}
+use Rattle.rows.specs.Members.{In, Is, Member, Meet}
 use Rattle.rows.specs.Table.{rel, on}
 use Rattle.rows.specs.declared.Set.{Set}
-use Rattle.rows.proofs.Members.{in-low, subset-less}
+use Rattle.rows.proofs.Members.{value, in-low, subset-less}
 use Rattle.cycles.specs.Search.{among, Left}
 
 -- the path has been at x

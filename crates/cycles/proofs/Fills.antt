@@ -10,10 +10,10 @@ use lib.ListN.{getD, set, length, drop, length-append, length-set}
 use lib.Seq.{drop-cons, set-at, drop-set-lt}
 use Rattle.order.specs.Least.{Least, Hit}
 use Rattle.order.specs.Relation.{Rel, Below}
-use Rattle.order.specs.Walk.{Walk, Greedy}
+use Rattle.order.specs.Walk.{Walk}
 use Rattle.order.proofs.Searches.{found-less, hit-as}
 use Rattle.order.proofs.Walks.{join, snoc, last, within-below}
-use Rattle.order.proofs.Cycles.{shown}
+use Rattle.order.proofs.Cycles.{Greedy, shown}
 use Rattle.rows.specs.Members.{In, Is}
 use Rattle.rows.specs.Table.{rel, on}
 use Rattle.rows.specs.declared.Set.{Set}

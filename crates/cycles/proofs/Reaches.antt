@@ -5,10 +5,10 @@ use mathlib.Core.List.{List, [], _∷_}
 use mathlib.Core.Logic.{_⊎_, inl, inr, ⊎-elim}
 use native.Mathlib.Decide.{ℕ-discrete}
 use Rattle.order.specs.Relation.{Trail, Chain}
-use Rattle.rows.specs.Members.{In, Is, Member, Meet, value}
+use Rattle.rows.specs.Members.{In, Is, Member, Meet}
 use Rattle.rows.specs.Table.{rel, on}
 use Rattle.rows.specs.declared.Set.{Set}
-use Rattle.rows.proofs.Members.{dec-in, is-as, subset-less}
+use Rattle.rows.proofs.Members.{value, dec-in, is-as, subset-less}
 use Rattle.cycles.specs.Search.{Into}
 
 -- a row that meets w: a step into w

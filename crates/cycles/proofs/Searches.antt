@@ -9,9 +9,9 @@ use Rattle.order.specs.Relation.{Rel, Below, Cyclic}
 use Rattle.order.specs.Walk.{Walk}
 use Rattle.order.proofs.Walks.{short, join, snoc}
 use Rattle.order.proofs.Cycles.{cyclic-walk}
-use Rattle.rows.specs.Members.{In, Is, Member, value}
+use Rattle.rows.specs.Members.{In, Is, Member}
 use Rattle.rows.specs.Table.{on}
-use Rattle.rows.proofs.Members.{subset-less}
+use Rattle.rows.proofs.Members.{value, subset-less}
 use Rattle.rows.specs.declared.Set.{Set}
 use Rattle.cycles.specs.Search.{among, Left, Reached, Away, Shortest}
 use Rattle.cycles.proofs.Digs.{walk-as}

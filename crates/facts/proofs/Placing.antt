@@ -7,10 +7,10 @@ use native.Mathlib.Omega.{arith}
 use native.Mathlib.Decide.{decLt}
 use Rattle.order.specs.Relation.{Rel}
 use Rattle.order.proofs.Numbers.{last-or}
-use Rattle.rows.specs.Members.{In, Is, Member, value}
+use Rattle.rows.specs.Members.{In, Is, Member}
 use Rattle.rows.specs.Table.{HasRows, rel, Adds}
 use Rattle.rows.specs.declared.Set.{Set}
-use Rattle.rows.proofs.Members.{dec-in, is-as, subset-less}
+use Rattle.rows.proofs.Members.{value, dec-in, is-as, subset-less}
 use Rattle.rows.proofs.Table.{adds-none, adds-as}
 use Rattle.record.specs.Execution.{Execution}
 use Rattle.record.specs.Words.{Memory, Register, SamePlace}

@@ -10,10 +10,13 @@ use Rattle.form.specs.declared.Counts.{Counts}
 use Rattle.form.specs.declared.Step.{Step}
 use Rattle.form.specs.declared.Step.the-variants.{Next}
 
--- ---- the table: bytes of an entry and most entries, by section. A view is an entry list of section 9.
+-- ---- the table, by section from 0 on. Of section 9 it has a view, which is a section of its own; how many views there are is P.
+
+-- bytes of an entry
 unfoldable pub width : ℕ → ℕ
 width k = getD (1 ∷ 1 ∷ 12 ∷ 2 ∷ 4 ∷ 12 ∷ 1 ∷ 1 ∷ 2 ∷ 1 ∷ []) k 0
 
+-- most entries
 unfoldable pub limit : ℕ → ℕ
 limit k = getD (0 ∷ 4 ∷ 64 ∷ 128 ∷ 16 ∷ 64 ∷ 64 ∷ 16 ∷ 64 ∷ 64 ∷ []) k 0
 

@@ -1,4 +1,4 @@
--- What reading promises of a record that has the form: the crates above cite this alone.
+-- What reading promises of a record that has the form.
 use Prim.Native.Nat.{ℕ, _+_, _*_, _≤_, _<_}
 use mathlib.Core.Path.{_≡_}
 use mathlib.Core.List.{List}

@@ -16,7 +16,8 @@ use Rattle.cycles.specs.Showing.{Showing}
 use Rattle.record.specs.Execution.{Execution}
 use Rattle.record.specs.Formed.{Formed}
 use Rattle.model.specs.Model.{OrderFor}
-use Rattle.judge.specs.Later.{causality, QuietAt, ShownAt}
+use Rattle.model.specs.Rules.{rule24}
+use Rattle.judge.specs.Later.{QuietAt, ShownAt}
 use Rattle.judge.proofs.Scenes.{Arranged, rows-order, order-rows}
 
 -- the part after the first entry, put back
@@ -63,10 +64,10 @@ module _ (z : Execution) (f : Formed z) (p : ℕ) (h : p < z .processors) (t : L
       go (inl (a, b, c)) = ((λ x. a (cyclic-as _ (on n t) (order-rows z f p h t g n e) x)), put-nothing ev ys long c)
       go (inr (m, s, v)) = let q = cycle-some (on n t) m (s .cycle) in let d = v .0 in absurd (omega arith)
 
-  pub cycle-some-shown : 0 < k → ShownAt (causality z) p ev (set (putMid 1 (length ev - 1) ev ys) 0 p) (k + 1)
+  pub cycle-some-shown : 0 < k → ShownAt (rule24 z) p ev (set (putMid 1 (length ev - 1) ev ys) 0 p) (k + 1)
   cycle-some-shown l = go w
     where
-      go : Showing (on n t) (midOf 1 (length ev - 1) ev) ys k → ShownAt (causality z) p ev (set (putMid 1 (length ev - 1) ev ys) 0 p) (k + 1)
+      go : Showing (on n t) (midOf 1 (length ev - 1) ev) ys k → ShownAt (rule24 z) p ev (set (putMid 1 (length ev - 1) ev ys) 0 p) (k + 1)
       go (inl (a, b, c)) = absurd (omega arith)
       go (inr (m, s, v)) =
           let d = shown-first (OrderFor z p) m (shown-as (on n t) _ (rows-order z f p h t g n e) (order-rows z f p h t g n e) m s) in
@@ -84,5 +85,5 @@ module _ (z : Execution) (f : Formed z) (p : ℕ) (h : p < z .processors) (t : L
           let d = v .0 in
           omega arith
 
-pub cycle-quiet : (z : Execution) (p : ℕ) → (Cyclic (OrderFor z p) → ⊥) → QuietAt (causality z) p
+pub cycle-quiet : (z : Execution) (p : ℕ) → (Cyclic (OrderFor z p) → ⊥) → QuietAt (rule24 z) p
 cycle-quiet z p f w (h, r) = f (round-cyclic (OrderFor z p) w r)

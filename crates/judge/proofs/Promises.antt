@@ -11,8 +11,8 @@ use Rattle.record.specs.Says.{executionOf}
 use Rattle.structure.proofs.Examining.{answered-unique, answered-judged}
 use Rattle.model.specs.Model.{OrderFor}
 use Rattle.model.specs.Rules.{witnessRules, checkRules}
-use Rattle.model.specs.Demand2.{Passes, Answers, Valid}
-use Rattle.model.proofs.Demand2.{demand-2, causality}
+use Rattle.model.specs.Validity.{Passes, Answers, Valid}
+use Rattle.model.proofs.Validity.{zero-valid, causality}
 use Rattle.judge.specs.Checked.{Checked}
 
 -- two results that the check's contract allows are one: the answer, the number of entries, and every entry of the buffer
@@ -26,7 +26,7 @@ module _ (s before after : List ℕ) (a k : ℕ) (c : Checked s before after a k
 
   -- demand 2: of a record that passes form and structure, the answer is 0 exactly if what it says is a valid execution
   pub check-valid : Passes s → (a ≡ 0) ↔ Valid (executionOf s)
-  check-valid p = demand-2 s p a (answers .0) (answers .1)
+  check-valid p = zero-valid s p a (answers .0) (answers .1)
 
   -- where the rules before it hold, it is 24 exactly if some processor's view order joined with happens-before has a cycle
   pub check-causality : Passes s → AllKept (witnessRules (executionOf s))

@@ -10,8 +10,8 @@ use Rattle.order.proofs.Dictionaries.{firstly-cons}
 use Rattle.order.proofs.Numbers.{last-or}
 use Rattle.order.proofs.Judgements.{rule-shown, given-next, given-none}
 use Rattle.record.specs.Execution.{Execution}
-use Rattle.model.specs.Rules.{Overwritten, WrongInitial, Torn}
-use Rattle.judge.specs.Later.{causality, laterRule, laterRules, QuietAt, ShownAt, RuledAt}
+use Rattle.model.specs.Rules.{rule24, Overwritten, WrongInitial, Torn}
+use Rattle.judge.specs.Later.{laterRule, laterRules, QuietAt, ShownAt, RuledAt}
 
 -- the empty list does not break the rule, and the first number of a list that does is below n
 pub record Opens (n : ℕ) (q : Rule) : Type 0 where
@@ -45,7 +45,7 @@ ruled-shown q p b a k (inl (f, z, e)) h = absurd (omega arith)
 ruled-shown q p b a k (inr x) h = x
 
 module _ (z : Execution) where
-  pub opens-24 : Opens (z .processors) (causality z)
+  pub opens-24 : Opens (z .processors) (rule24 z)
   opens-24 = record { nil = λ h. h; low = λ p w h. h .0 }
 
   -- the rules 25 to 27 begin with a processor

@@ -18,9 +18,9 @@ use Rattle.record.specs.Says.{executionOf}
 use Rattle.record.specs.Laid.{Views}
 use Rattle.record.specs.declared.Part.{Part}
 use Rattle.model.specs.Model.{OrderFor}
-use Rattle.model.specs.Rules.{orderRules}
+use Rattle.model.specs.Rules.{rule24, orderRules}
 use Rattle.judge.specs.declared.Look.{Look}
-use Rattle.judge.specs.Later.{causality, laterRule, laterRules, QuietAt, Looked}
+use Rattle.judge.specs.Later.{laterRule, laterRules, QuietAt, Looked}
 use Rattle.judge.specs.Ordered.{NoCycle}
 use Rattle.judge.proofs.Behind.{cycle-quiet}
 use Rattle.judge.proofs.Viewings.{quiet-kept, view-shown, opens-24, opens-later, later-kept}
@@ -62,8 +62,8 @@ module _ (s b : List ℕ) where
           go : Looked (executionOf s) p c a r → Given (Judged (orderRules (executionOf s))) b a 24 (r .count)
           go (inl h) =
               subst (λ (y : List ℕ). Given (Judged (orderRules (executionOf s))) y a 24 (r .count)) (x .same)
-              (rule-shown (causality (executionOf s)) (laterRules (executionOf s)) c a (r .count)
-              (view-shown _ (causality (executionOf s)) (opens-24 (executionOf s)) p (λ k n. cycle-quiet (executionOf s) k (x .acyclic k n)) c a (r .count) h) l)
+              (rule-shown (rule24 (executionOf s)) (laterRules (executionOf s)) c a (r .count)
+              (view-shown _ (rule24 (executionOf s)) (opens-24 (executionOf s)) p (λ k n. cycle-quiet (executionOf s) k (x .acyclic k n)) c a (r .count) h) l)
           go (inr h) = let e = h .0 in absurd (omega arith)
 
       pub watched-more : p < executionOf s .processors → (v : Part) → Views s p v → r .count ≤ 0 → Watched s b a (v .at + v .count) (all && r .calm) (p + 1)
@@ -87,8 +87,8 @@ module _ (s b : List ℕ) where
       -- so what is left to judge is the rules after it
       after : (a : List ℕ) (n k : ℕ) → Given (Judged (laterRules (executionOf s))) c a n k → Given (Judged (orderRules (executionOf s))) c a n k
       after a n k g =
-          given-next (causality (executionOf s)) (laterRules (executionOf s)) c a n k
-          (quiet-kept _ (causality (executionOf s)) (opens-24 (executionOf s)) (λ p h. cycle-quiet (executionOf s) p (no-cycle p h))) g
+          given-next (rule24 (executionOf s)) (laterRules (executionOf s)) c a n k
+          (quiet-kept _ (rule24 (executionOf s)) (opens-24 (executionOf s)) (λ p h. cycle-quiet (executionOf s) p (no-cycle p h))) g
 
       pub watched-closer : (a : List ℕ) (n k : ℕ) → Given (Judged (laterRules (executionOf s))) c a n k → Given (Judged (orderRules (executionOf s))) b a n k
       watched-closer a n k g = subst (λ (y : List ℕ). Given (Judged (orderRules (executionOf s))) y a n k) (x .same) (after a n k g)

@@ -6,22 +6,18 @@ use mathlib.Core.List.{List, [], _∷_}
 use mathlib.Core.Bool.{true}
 use Rattle.order.specs.Dictionary.{Firstly}
 use Rattle.order.specs.Relation.{Cyclic}
-use Rattle.order.specs.Rule.{Rule, rule, cyclesRule}
+use Rattle.order.specs.Rule.{Rule}
 use Rattle.order.specs.Evidence.{Written}
 use Rattle.record.specs.Execution.{Execution}
 use Rattle.model.specs.Model.{OrderFor}
-use Rattle.model.specs.Rules.{Overwritten, WrongInitial, Torn}
+use Rattle.model.specs.Rules.{rule24, rule25, rule26, rule27}
 use Rattle.judge.specs.declared.Look.{Look}
 
--- rule 24
-abbrev pub causality : Execution → Rule
-causality z = cyclesRule 24 (z .processors) (OrderFor z)
-
--- the rules 25 to 27
+-- the rules 25 to 27, by number from 0 on
 abbrev pub laterRule : Execution → ℕ → Rule
-laterRule z zero = rule 25 4 (Overwritten z)
-laterRule z (suc zero) = record { number = 26; Breaks = WrongInitial z; shown = λ w. w }
-laterRule z (suc (suc i)) = rule 27 4 (Torn z)
+laterRule z zero = rule25 z
+laterRule z (suc zero) = rule26 z
+laterRule z (suc (suc i)) = rule27 z
 
 abbrev pub laterRules : Execution → List Rule
 laterRules z = laterRule z 0 ∷ laterRule z 1 ∷ laterRule z 2 ∷ []
@@ -43,5 +39,5 @@ RuledAt q p before after k = (QuietAt q p × (k ≡ 0) × (after ≡ before)) �
 -- nothing that begins with p breaks the rules after it
 abbrev pub Looked : Execution → ℕ → List ℕ → List ℕ → Look → Type 0
 Looked z p before after r =
-    ShownAt (causality z) p before after (r .count)
+    ShownAt (rule24 z) p before after (r .count)
     ⊎ ((r .count ≡ 0) × (after ≡ before) × (Cyclic (OrderFor z p) → ⊥) × (r .calm ≡ true → (i : ℕ) → i < 3 → QuietAt (laterRule z i) p))

@@ -7,7 +7,7 @@ use native.Mathlib.Nat.{add-zero, zero-add}
 use lib.ListN.{length, take, drop, set, getD, length-append, length-drop, take-append-drop}
 use lib.Seq.{length-take-le, drop-cons, set-at, take-at, drop-at, take-append-le, take-take, drop-drop}
 use Rattle.order.specs.Evidence.{Written}
-use Rattle.lent.specs.Put.{Put}
+use Rattle.lent.specs.Put.{Put, PutTo}
 
 pub put-nothing : (b : List ℕ) (at : ℕ) → at ≤ length b → Put b at [] b
 put-nothing b at h = record { fits = omega arith; is = rw add-zero (sym (take-append-drop at b)) }
@@ -68,3 +68,6 @@ put-ahead b m c x y at z p q e =
 
 pub put-written : (b m w : List ℕ) → Put b 0 w m → Written w b m (length w)
 put-written b m w p = (refl, rw zero-add at (p .is))
+
+pub to-written : (b m w : List ℕ) (z : ℕ) → PutTo b 0 w m z → Written w b m z
+to-written b m w z (p, e) = let i : z ≡ length w = omega arith in rw i (put-written b m w p)

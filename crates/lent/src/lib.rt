@@ -1,1 +1,1 @@
-// Bytes written into a lent buffer: definitions and laws, no code.
+// Parts of lent slices, and bytes written into a lent buffer: definitions and laws, no code.

@@ -10,17 +10,17 @@ use lib.ListN.{length, take, getD}
 use lib.Seq.{length-take-le}
 use Rattle.order.specs.Least.{Counted}
 use Rattle.order.specs.Decides.{Decides}
-use Rattle.order.specs.Evidence.{Written}
+use Rattle.order.proofs.Numbers.{counted-some}
 use Rattle.order.proofs.Tests.{by-or, by-and, by-eq, by-le}
-use Rattle.rows.specs.Table.{HasRows, rowOf, rel}
-use Rattle.rows.proofs.Members.{dec-in}
+use Rattle.rows.specs.Table.{HasRows, rel}
+use Rattle.rows.proofs.Table.{dec-rel}
 use Rattle.lent.specs.Put.{PutTo}
-use Rattle.lent.proofs.Puts.{put-length, put-written}
+use Rattle.lent.proofs.Puts.{put-length, to-written}
 use Rattle.form.specs.Bytes.{num}
 use Rattle.form.specs.Place.{start, count}
 use Rattle.record.specs.Says.{executionOf}
 use Rattle.record.proofs.Formings.{formed}
-use Rattle.model.specs.Demand2.{Answers}
+use Rattle.model.specs.Validity.{Answers}
 use Rattle.judge.specs.Checked.{Checked}
 use Rattle.table.specs.Tabled.{Filled, Tabled}
 use Rattle.listing.specs.Listing.{verdict, eventLines, Ordered, Listed}
@@ -32,15 +32,6 @@ pub ordered-test : (a : ℕ) → Decides (eqb a 0 || (leb 24 a && leb a 27)) (Or
 ordered-test a = by-or _ _ (by-eq a 0) (by-and _ _ (by-le 24 a) (by-le a 27))
 
 -- ---- the counts of the rows of a table
-
-counted-some : (n : ℕ) (P : ℕ → Type 0) → ((k : ℕ) → Dec (P k)) → (r : ℕ) × Counted n P r
-unfolding Counted
-counted-some zero P d = (0, refl)
-counted-some (suc n) P d = go (d n) (counted-some n P d)
-  where
-    go : Dec (P n) → (r : ℕ) × Counted n P r → (r : ℕ) × Counted (suc n) P r
-    go (yes p) (r, c) = (suc r, inl (p, (r, refl, c)))
-    go (no g) (r, c) = (r, inr (g, c))
 
 each-of : (P : ℕ → ℕ → Type 0) → ((j : ℕ) → (r : ℕ) × P j r) → (n : ℕ) → (cs : List ℕ) × (length cs ≡ n) × ((j : ℕ) → j < n → P j (getD cs j 0))
 each-of P f zero = ([], refl, λ j l. absurd (omega arith))
@@ -54,15 +45,8 @@ each-of P f (suc n) = go (each-of (λ j. P (suc j)) (λ j. f (suc j)) n)
         pick zero l = f 0 .1
         pick (suc j) l = g j (omega arith)
 
-dec-rel : (t : List ℕ) (a b : ℕ) → Dec (rel t a b)
-unfolding rel
-dec-rel t a b = dec-in (rowOf t a) b
-
 row-counts : (t : List ℕ) (n : ℕ) → (cs : List ℕ) × (length cs ≡ n) × ((e : ℕ) → e < n → Counted 64 (rel t e) (getD cs e 0))
 row-counts t n = each-of (λ e r. Counted 64 (rel t e) r) (λ e. counted-some 64 (rel t e) (dec-rel t e)) n
-
-to-written : (b m w : List ℕ) (z : ℕ) → PutTo b 0 w m z → Written w b m z
-to-written b m w z (p, e) = let i : z ≡ length w = omega arith in rw i (put-written b m w p)
 
 -- ---- the check has left its evidence in a buffer of 65 entries
 module _ (s v w : List ℕ) (a k : ℕ) (lv : length v ≡ 65) (lw : length w ≡ 65) where

@@ -7,9 +7,9 @@ use native.Mathlib.Omega.{arith}
 use lib.ListN.{length, take, drop, getD, length-append}
 use lib.Seq.{take-at, ext-getD}
 use Rattle.order.specs.Least.{Counted}
-use Rattle.order.specs.Rule.{Rule, Judged, AllKept}
+use Rattle.order.specs.Rule.{AllKept}
 use Rattle.order.specs.Evidence.{Written}
-use Rattle.order.proofs.Judgements.{zero-judged, given-unique}
+use Rattle.order.proofs.Judgements.{Otherwise, judged-kept, zero-judged, given-unique}
 use Rattle.order.proofs.Numbers.{counted-as, counted-unique}
 use Rattle.rows.specs.Table.{rel}
 use Rattle.form.specs.Right.{Right}
@@ -26,23 +26,11 @@ use Rattle.structure.specs.Examined.{examinedBy, examination}
 use Rattle.structure.proofs.Examining.{examination-unique}
 use Rattle.model.specs.Model.{HappensBefore}
 use Rattle.model.specs.Rules.{witnessRules, orderRules, checkRules}
-use Rattle.model.specs.Demand2.{Answers}
+use Rattle.model.specs.Validity.{Answers}
 use Rattle.table.specs.Tabled.{Filled, tabledBy, Tabled}
 use Rattle.listing.specs.Listing.{verdict, eventLines, Counts, Ordered, Listing, Listed}
 
 -- ---- answer 0 or 24 to 27: form, structure and witness are in order
-
--- no rule has the number a
-abbrev Otherwise : ℕ → List Rule → Type 0
-Otherwise a [] = Unit {0}
-Otherwise a (q ∷ qs) = (a ≡ q .number → ⊥) × Otherwise a qs
-
--- rules that do not have the number of the answer are kept
-judged-kept : (qs rs : List Rule) (a : ℕ) (e : List ℕ) → Otherwise a qs → Judged (qs ++ rs) a e → AllKept qs
-unfolding Judged
-judged-kept [] rs a e o j = tt
-judged-kept (q ∷ qs) rs a e o (inl j) = absurd (o .0 (j .1))
-judged-kept (q ∷ qs) rs a e o (inr j) = (j .0, judged-kept qs rs a e (o .1) (j .1))
 
 -- such an answer is 0 or above 23
 ordered-apart : (a : ℕ) → Ordered a → 0 < (1 - a) + (a - 23)

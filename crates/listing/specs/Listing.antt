@@ -9,7 +9,7 @@ use Rattle.order.specs.Evidence.{Written}
 use Rattle.record.specs.Execution.{Execution}
 use Rattle.record.specs.Says.{executionOf}
 use Rattle.model.specs.Model.{HappensBefore}
-use Rattle.model.specs.Demand2.{Answers}
+use Rattle.model.specs.Validity.{Answers}
 use Rattle.listing.specs.Text.{answer, evidence, event, line}
 
 -- answer and evidence

@@ -7,16 +7,20 @@ use native.Mathlib.Omega.{arith}
 use Rattle.order.specs.Least.{Some, None}
 use Rattle.order.specs.Rule.{AllKept}
 use Rattle.order.proofs.Searches.{kept-from}
-use Rattle.order.proofs.Rules.{cycle-kept, kept-cycle, cycles-kept, kept-cycles, cyclic-as}
+use Rattle.order.proofs.Rules.{cycle-kept, kept-cycle, cyclic-as}
 use Rattle.record.specs.Execution.{Items, Pair, Execution}
 use Rattle.record.specs.Formed.{Each, PairFormed, Formed}
 use Rattle.record.specs.Words.{SameInstruction, Belongs, OfLock, Causes, InitialFor}
 use Rattle.record.specs.declared.Event.{Event}
 use Rattle.structure.specs.Structure.{Joining, Unordered, Eventless, Repeated, structureRules}
-use Rattle.model.specs.Agree.{Alike, Agree}
+use Rattle.model.specs.Agree.{Alike, AgreeIn, Agree}
 use Rattle.model.specs.Model.{Store, Locked, KeepsOrder, Preserved, Before, StoreOrder, LockedOrder, Source, HappensBefore, Sees, OrderFor}
-use Rattle.model.specs.Rules.{Stands, Misplaced, WrongView, WrongStore, WrongLock, WriteAndRead, WrongSource, WritesPlace, Overwritten, Unsourced, Initially, WrongInitial, BreaksUp, Torn, checkRules}
-use Rattle.model.proofs.Lists.{before-ends}
+use Rattle.model.specs.Rules.{Stands, Misplaced, WriteAndRead, WrongSource, WritesPlace, Overwritten, Unsourced, Initially, WrongInitial, BreaksUp, Torn, orderRules, checkRules}
+use Rattle.model.specs.ViewAlone.{Broken, Names}
+use Rattle.model.proofs.Breaks.{kept-unbroken, unbroken-kept, of-from, round-as, order-names}
+use Rattle.model.proofs.Lists.{Proper, before-ends}
+use Rattle.model.proofs.Serializations.{Stored, kept-stored, stored-kept, Queued, kept-queued, queued-kept}
+use Rattle.model.proofs.Views.{Viewed, kept-viewed, viewed-kept}
 
 -- ---- lists
 
@@ -49,6 +53,15 @@ misplaced-alike D E l m e t u g (inl (d, n)) = inl (t d, λ s. n (some-alike m l
 misplaced-alike D E l m e t u g (inr (inl (n, s))) = inr (inl (λ d. n (u d), some-alike l m g (λ a. a ≡ e) s))
 misplaced-alike D E l m e t u g (inr (inr b)) = inr (inr (before-alike l m g e e b))
 
+pub proper-alike : (D E : ℕ → Type 0) (l m : Items ℕ) → ((e : ℕ) → D e → E e) → ((e : ℕ) → E e → D e) → Alike l m → Proper l D → Proper m E
+proper-alike D E l m t u g p =
+    let b = alike-sym l m g in
+    record {
+      stands = λ e q. some-alike l m g (λ a. a ≡ e) (p .stands e (u e q));
+      due = λ e q. t e (p .due e (some-alike m l b (λ a. a ≡ e) q));
+      single = λ e q. p .single e (before-alike m l b e e q);
+    }
+
 -- where each item is below n, what stands in the list is
 before-low : (n : ℕ) (l : Items ℕ) → Each 64 (λ e. e < n) l → (a b : ℕ) → Before l a b → (a < n) × (b < n)
 before-low n l f a b q = let (s, t) = before-ends l a b q in (low a s, low b t)
@@ -58,8 +71,9 @@ before-low n l f a b q = let (s, t) = before-ends l a b q in (low a s, low b t)
 
 -- ---- the form, and the words of the rules
 
-pub agree-sym : (x y : Execution) → Agree x y → Agree y x
-agree-sym x y g = record {
+-- turned round, in the same views or in fewer
+turned : (S T : ℕ → Type 0) (x y : Execution) → ((p : ℕ) → T p → S p) → AgreeIn S x y → AgreeIn T y x
+turned S T x y f g = record {
   processors = sym (g .processors);
   events = alike-sym _ _ (g .events);
   causes = alike-sym _ _ (g .causes);
@@ -68,8 +82,11 @@ agree-sym x y g = record {
   stores = alike-sym _ _ (g .stores);
   lockOrder = alike-sym _ _ (g .lockOrder);
   sources = alike-sym _ _ (g .sources);
-  view = λ p h. alike-sym _ _ (g .view p (rw (g .processors) h));
+  view = λ p h. alike-sym _ _ (g .view p (f p h));
 }
+
+pub agree-sym : (x y : Execution) → Agree x y → Agree y x
+agree-sym x y g = turned _ _ x y (λ p h. rw (g .processors) h) g
 
 module _ (x y : Execution) (g : Agree x y) where
   pub formed-agree : Formed x → Formed y
@@ -86,6 +103,7 @@ module _ (x y : Execution) (g : Agree x y) where
         rw (g .events .size) at (each-alike _ _ (g .view p k) _ _ (f .view p k));
   }
 
+module _ {S : ℕ → Type 0} (x y : Execution) (g : AgreeIn S x y) where
   causes-agree : (a b : ℕ) → Causes x a b → Causes y a b
   unfolding Causes
   causes-agree a b q = some-alike _ _ (g .causes) (λ c. (c .from ≡ a) × (c .to ≡ b)) q
@@ -100,11 +118,11 @@ module _ (x y : Execution) (g : Agree x y) where
   sees-agree : (p e : ℕ) → Sees x p e → Sees y p e
   sees-agree p e q = event-agree (λ u. (u .processor ≡ p) ⊎ Store u) e q
 
--- ---- what breaks a rule in x breaks it in y
+-- ---- what breaks a rule in x breaks it in y; a rule about a view, where they agree in that view
 
-module _ (x y : Execution) (g : Agree x y) (f : Formed x) where
-  back : Agree y x
-  back = agree-sym x y g
+module _ {S : ℕ → Type 0} (x y : Execution) (g : AgreeIn S x y) (f : Formed x) where
+  back : AgreeIn S y x
+  back = turned S S x y (λ p h. h) g
 
   -- an entry of a list of pairs, whose events are not as R says
   pair-agree : (R : Event → Event → Type 0) (most : ℕ) (l m : Items Pair) → Alike l m → Each most (PairFormed (x .events .size)) l
@@ -146,20 +164,18 @@ module _ (x y : Execution) (g : Agree x y) (f : Formed x) where
   repeated-agree i (h, (j, k, e)) = (rw (g .locks .size) at h, (j, k, sym (g .locks .item j (omega arith)) ∙ e ∙ g .locks .item i h))
 
   -- 20
-  view-agree : (p e : ℕ) → WrongView x p e → WrongView y p e
-  unfolding WrongView
-  view-agree p e (h, q) =
-      (rw (g .processors) at h, misplaced-alike _ _ _ _ e (sees-agree x y g p e) (sees-agree y x back p e) (g .view p h) q)
+  viewed-back : ((p : ℕ) → p < x .processors → S p) → Viewed y → Viewed x
+  viewed-back all v p h =
+      let k : p < y .processors = rw (g .processors) at h in
+      proper-alike _ _ _ _ (sees-agree y x back p) (sees-agree x y g p) (back .view p (all p h)) (v p k)
 
   -- 21
-  store-agree : (e : ℕ) → WrongStore x e → WrongStore y e
-  unfolding WrongStore
-  store-agree e q = misplaced-alike _ _ _ _ e (event-agree x y g Store e) (event-agree y x back Store e) (g .stores) q
+  stored-back : Stored y → Stored x
+  stored-back v = proper-alike _ _ _ _ (event-agree y x back Store) (event-agree x y g Store) (back .stores) v
 
   -- 22
-  lock-agree : (i : ℕ) → WrongLock x i → WrongLock y i
-  unfolding WrongLock
-  lock-agree i q = misplaced-alike _ _ _ _ i (λ h. rw (g .locks .size) at h) (λ h. rw (g .locks .size) h) (g .lockOrder) q
+  queued-back : Queued y → Queued x
+  queued-back v = proper-alike _ _ _ _ (λ i h. rw (g .locks .size) h) (λ i h. rw (g .locks .size) at h) (back .lockOrder) v
 
   -- 23
   wrong-agree : (i : ℕ) → WrongSource x i → WrongSource y i
@@ -204,23 +220,23 @@ module _ (x y : Execution) (g : Agree x y) (f : Formed x) where
           two-alike _ _ (g .lockOrder) (λ c d. OfLock y c a × OfLock y d b)
           (j, h, (i, k, (of _ a (f .lockOrder .each i (omega arith)) r, of _ b (f .lockOrder .each j h) s)))
 
-  order-agree : (p : ℕ) → p < x .processors → (a b : ℕ) → OrderFor x p a b → OrderFor y p a b
-  order-agree p h a b q = ⊎-map (before-alike _ _ (g .view p h) a b) (happens-agree a b) q
+  order-agree : (p : ℕ) → S p → (a b : ℕ) → OrderFor x p a b → OrderFor y p a b
+  order-agree p v a b q = ⊎-map (before-alike _ _ (g .view p v) a b) (happens-agree a b) q
 
   -- 25
   place-agree : (a b : ℕ) → a < x .events .size → b < x .events .size → WritesPlace x a b → WritesPlace y a b
   place-agree a b ha hb q = rw (g .events .item a ha, g .events .item b hb) at q
 
-  overwritten-agree : (p w r e : ℕ) → Overwritten x p w r e → Overwritten y p w r e
+  overwritten-agree : (p : ℕ) → S p → (w r e : ℕ) → Overwritten x p w r e → Overwritten y p w r e
   unfolding Overwritten
-  overwritten-agree p w r e (h, s, (a, b), n, q, c, d) = (
+  overwritten-agree p v w r e (h, s, (a, b), n, q, c, d) = (
     rw (g .processors) at h,
     source-agree x y g w r s,
     (sees-agree x y g p w a, sees-agree x y g p r b),
     n,
     place-agree e r (before-low _ _ (f .view p h) e r d .0) (b .0) q,
-    before-alike _ _ (g .view p h) w e c,
-    before-alike _ _ (g .view p h) e r d,
+    before-alike _ _ (g .view p v) w e c,
+    before-alike _ _ (g .view p v) e r d,
   )
 
   -- 26
@@ -232,12 +248,11 @@ module _ (x y : Execution) (g : Agree x y) (f : Formed x) where
     λ w o. n w (source-agree y x back w r o),
   )
 
-  initial-agree : (w : List ℕ) → WrongInitial x w → WrongInitial y w
+  initial-agree : (p : ℕ) → S p → (w : List ℕ) → WrongInitial x (p ∷ w) → WrongInitial y (p ∷ w)
   unfolding WrongInitial
-  initial-agree [] q = q
-  initial-agree (p ∷ []) q = q
-  initial-agree (p ∷ r ∷ []) q = q
-  initial-agree (p ∷ r ∷ code ∷ []) (u, q) =
+  initial-agree p h [] q = q
+  initial-agree p h (r ∷ []) q = q
+  initial-agree p h (r ∷ code ∷ []) (u, q) =
       let o = rw (g .events .item r (u .1 .0)) at q in (
         unsourced-agree p r u,
         ⊎-map
@@ -256,18 +271,18 @@ module _ (x y : Execution) (g : Agree x y) (f : Formed x) where
           rw (g .initials .item i h) at e,
         ),
       )
-  initial-agree (p ∷ r ∷ code ∷ a ∷ []) (u, c, q, b) = (
+  initial-agree p h (r ∷ code ∷ a ∷ []) (u, c, q, b) = (
     unsourced-agree p r u,
     c,
     place-agree a r (before-low _ _ (f .view p (u .0)) a r b .0) (u .1 .0) q,
-    before-alike _ _ (g .view p (u .0)) a r b,
+    before-alike _ _ (g .view p h) a r b,
   )
-  initial-agree (p ∷ r ∷ code ∷ a ∷ b ∷ w) q = q
+  initial-agree p h (r ∷ code ∷ a ∷ b ∷ w) q = q
 
   -- 27
-  torn-agree : (p a e b : ℕ) → Torn x p a e b → Torn y p a e b
+  torn-agree : (p : ℕ) → S p → (a e b : ℕ) → Torn x p a e b → Torn y p a e b
   unfolding Torn BreaksUp
-  torn-agree p a e b (h, (l, s, n, c, d)) =
+  torn-agree p v a e b (h, (l, s, n, c, d)) =
       let (ha, he) = before-low _ _ (f .view p h) a e c in
       let hb = before-low _ _ (f .view p h) e b d .1 in (
         rw (g .processors) at h,
@@ -275,41 +290,51 @@ module _ (x y : Execution) (g : Agree x y) (f : Formed x) where
           locked-agree a ha l,
           rw (g .events .item a ha, g .events .item b hb) at s,
           rw (g .events .item a ha, g .events .item e he) at n,
-          before-alike _ _ (g .view p h) a e c,
-          before-alike _ _ (g .view p h) e b d,
+          before-alike _ _ (g .view p v) a e c,
+          before-alike _ _ (g .view p v) e b d,
         ),
       )
 
-  -- so what y keeps, x keeps
+  -- 24 to 27: what names p
+  pub broken-agree : (p : ℕ) → S p → (n : ℕ) (w e : List ℕ) → Names w p → Broken (orderRules x) n w e → Broken (orderRules y) n w e
+  broken-agree p v n [] e i b = absurd i
+  broken-agree p v n (q ∷ w) e i b =
+      let h : S q = rw i at v in
+      ⊎-map
+      (λ (o, (l, r), s). (o, (rw (g .processors) at l, round-as _ _ (order-agree q h) w r), s))
+      (⊎-map
+      (λ (o, r, s). (o, of-from 3 (Overwritten y q) (Overwritten x q) (overwritten-agree q h) w r, s))
+      (⊎-map
+      (λ (o, r, s). (o, initial-agree q h w r, s))
+      (⊎-map (λ (o, r, s). (o, of-from 3 (Torn y q) (Torn x q) (torn-agree q h) w r, s)) (λ r. r))))
+      b
+
+-- so what y keeps, x keeps
+module _ (x y : Execution) (g : Agree x y) (f : Formed x) where
   structure-back : AllKept (structureRules y) → AllKept (structureRules x)
   structure-back (k10, (k11, (k12, (k13, (k14, t))))) = (
-    kept-from 1 (Joining y) (Joining x) joining-agree k10,
+    kept-from 1 (Joining y) (Joining x) (joining-agree x y g f) k10,
     (
       cycle-kept _ 11 (λ c. kept-cycle _ 11 k11 (cyclic-as (Causes x) (Causes y) (causes-agree x y g) c)),
       (
-        kept-from 2 (Unordered y) (Unordered x) unordered-agree k12,
-        (kept-from 1 (Eventless y) (Eventless x) eventless-agree k13, (kept-from 1 (Repeated y) (Repeated x) repeated-agree k14, tt)),
+        kept-from 2 (Unordered y) (Unordered x) (unordered-agree x y g f) k12,
+        (kept-from 1 (Eventless y) (Eventless x) (eventless-agree x y g f) k13, (kept-from 1 (Repeated y) (Repeated x) (repeated-agree x y g f) k14, tt)),
       ),
     ),
   )
 
+  order-back : AllKept (orderRules y) → AllKept (orderRules x)
+  order-back k = unbroken-kept (orderRules x) (λ n w e b.
+      let (p, h, i, j) = order-names x n w e b in kept-unbroken (orderRules y) k n w e (broken-agree x y g f p h n w e i b))
+
   check-back : AllKept (checkRules y) → AllKept (checkRules x)
-  check-back (k20, (k21, (k22, (k23, (k24, (k25, (k26, (k27, t)))))))) = (
-    kept-from 2 (WrongView y) (WrongView x) view-agree k20,
+  check-back (k20, (k21, (k22, (k23, k)))) = (
+    viewed-kept x (viewed-back x y g f (λ p h. h) (kept-viewed y k20)),
     (
-      kept-from 1 (WrongStore y) (WrongStore x) store-agree k21,
+      stored-kept x (stored-back x y g f (kept-stored y k21)),
       (
-        kept-from 1 (WrongLock y) (WrongLock x) lock-agree k22,
-        (
-          kept-from 1 (WrongSource y) (WrongSource x) wrong-agree k23,
-          (
-            cycles-kept 24 _ (OrderFor x) (λ p h c. kept-cycles 24 _ (OrderFor y) k24 p (rw (g .processors) at h) (cyclic-as _ _ (order-agree p h) c)),
-            (
-              kept-from 4 (Overwritten y) (Overwritten x) overwritten-agree k25,
-              (λ w q. k26 w (initial-agree w q), (kept-from 4 (Torn y) (Torn x) torn-agree k27, tt)),
-            ),
-          ),
-        ),
+        queued-kept x (queued-back x y g f (kept-queued y k22)),
+        (kept-from 1 (WrongSource y) (WrongSource x) (wrong-agree x y g f) k23, order-back k),
       ),
     ),
   )

@@ -1,5 +1,5 @@
 pub mod Agreeing
-pub mod Demand2
+pub mod Breaks
 pub mod Cycles
 pub mod Decisions
 pub mod Lists
@@ -7,5 +7,7 @@ pub mod Orders
 pub mod Serializations
 pub mod Sources
 pub mod Structures
+pub mod Validity
+pub mod ViewAlone
 pub mod Views
 pub mod Words

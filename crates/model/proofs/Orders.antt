@@ -1,7 +1,7 @@
 -- Rules 24 and 27 are causality and atomicity.
 use Prim.Native.Nat.{ℕ, _<_}
 use mathlib.Core.Path.{_≡_, sym, _∙_, subst}
-use mathlib.Core.Logic.{inl, inr}
+use mathlib.Core.Logic.{inl, inr, _↔_}
 use mathlib.Core.List.{[], _∷_}
 use native.Mathlib.Decide.{ℕ-discrete}
 use Rattle.order.specs.Relation.{Rel}
@@ -13,12 +13,12 @@ use Rattle.record.specs.Formed.{Formed}
 use Rattle.record.specs.Words.{OfLock}
 use Rattle.model.specs.Hol.{union, strict, happens-before, check-causality, check-atomicity}
 use Rattle.model.specs.Model.{Locked, OrderFor}
-use Rattle.model.specs.Rules.{BreaksUp, Torn}
+use Rattle.model.specs.Rules.{WrongView, BreaksUp, Torn}
 use Rattle.model.specs.Says.{structureOf, witnessOf}
 use Rattle.model.proofs.Cycles.{acyclic-not, not-acyclic}
 use Rattle.model.proofs.Decisions.{certain, dec-instruction}
 use Rattle.model.proofs.Lists.{before-ends, upto-ends, before-upto, upto-before, before-differ, before-trans}
-use Rattle.model.proofs.Views.{Viewed}
+use Rattle.model.proofs.Views.{Viewed, kept-viewed}
 use Rattle.model.proofs.Words.{happens-to, to-happens}
 
 module _ (z : Execution) (f : Formed z) (v : Viewed z) where
@@ -27,25 +27,25 @@ module _ (z : Execution) (f : Formed z) (v : Viewed z) where
     joined : Rel
     joined = union (strict (witnessOf z .vo p)) (happens-before (structureOf z) (witnessOf z))
 
-    joined-order : (a b : ℕ) → joined a b → OrderFor z p a b
+    joined-to : (a b : ℕ) → joined a b → OrderFor z p a b
     unfolding joined
-    joined-order a b (inl (u, n)) = inl (upto-before _ a b (u .1) n)
-    joined-order a b (inr q) = inr (happens-to z f a b q)
+    joined-to a b (inl (u, n)) = inl (upto-before _ a b (u .1) n)
+    joined-to a b (inr q) = inr (happens-to z f a b q)
 
-    order-joined : (a b : ℕ) → OrderFor z p a b → joined a b
+    to-joined : (a b : ℕ) → OrderFor z p a b → joined a b
     unfolding joined
-    order-joined a b (inl q) = inl ((h, before-upto _ a b q), before-differ _ (v p h .single) a b q)
-    order-joined a b (inr q) = inr (to-happens z f a b q)
+    to-joined a b (inl q) = inl ((h, before-upto _ a b q), before-differ _ (v p h .single) a b q)
+    to-joined a b (inr q) = inr (to-happens z f a b q)
 
   pub kept-causality : Kept (cyclesRule 24 (z .processors) (OrderFor z))
       → check-causality (structureOf z) (witnessOf z .vo) (happens-before (structureOf z) (witnessOf z))
   unfolding joined
-  kept-causality k p h = not-acyclic _ (λ c. kept-cycles 24 _ (OrderFor z) k p h (cyclic-as (joined p h) (OrderFor z p) (joined-order p h) c))
+  kept-causality k p h = not-acyclic _ (λ c. kept-cycles 24 _ (OrderFor z) k p h (cyclic-as (joined p h) (OrderFor z p) (joined-to p h) c))
 
   pub causality-kept : check-causality (structureOf z) (witnessOf z .vo) (happens-before (structureOf z) (witnessOf z))
       → Kept (cyclesRule 24 (z .processors) (OrderFor z))
   unfolding joined
-  causality-kept g = cycles-kept 24 _ (OrderFor z) (λ p h c. acyclic-not _ (g p h) (cyclic-as (OrderFor z p) (joined p h) (order-joined p h) c))
+  causality-kept g = cycles-kept 24 _ (OrderFor z) (λ p h c. acyclic-not _ (g p h) (cyclic-as (OrderFor z p) (joined p h) (to-joined p h) c))
 
   -- 27
   pub kept-atomicity : Kept (rule 27 4 (Torn z)) → check-atomicity (structureOf z) (witnessOf z .vo)
@@ -71,3 +71,9 @@ module _ (z : Execution) (f : Formed z) (v : Viewed z) where
       let ab = before-trans _ (v p h .single) a x b ax xb in
       let ox = c p h i l a b (ha, oa) (hb, (sym (same .0) ∙ oa .0, sym (same .1) ∙ oa .1)) (h, before-upto _ a b ab) x (h, before-upto _ a x ax) (h, before-upto _ x b xb) in
       other (oa .0 ∙ sym (ox .1 .0), oa .1 ∙ sym (ox .1 .1))
+
+-- what rule 24 and Causality ask to have no cycle is what HOL does: where rule 20 is kept, the two relations are one
+pub order-joined : (z : Execution) → Formed z → Kept (rule 20 2 (WrongView z)) → (p : ℕ) → p < z .processors → (a b : ℕ)
+    → OrderFor z p a b ↔ union (strict (witnessOf z .vo p)) (happens-before (structureOf z) (witnessOf z)) a b
+unfolding joined
+order-joined z f k p h a b = let v = kept-viewed z k in (to-joined z f v p h a b, joined-to z f v p h a b)

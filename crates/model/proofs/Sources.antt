@@ -15,7 +15,7 @@ use Rattle.record.specs.Words.{InitialFor}
 use Rattle.model.specs.Hol.{R, W, Location, ACCESS, loc, location-of, writes, reads-from-map-candidates, check-rfmap-written, check-rfmap-initial}
 use Rattle.model.specs.Model.{Reads, Writes, Source, ViewOrder}
 use Rattle.model.specs.Rules.{WriteAndRead, WrongSource, sourceOf, Overwritten, Unsourced, NoInitial, Initially, WrongInitial}
-use Rattle.model.specs.Says.{UpTo, structureOf, witnessOf}
+use Rattle.model.specs.Says.{UpTo, EntryFor, structureOf, witnessOf}
 use Rattle.model.proofs.Decisions.{certain, dec-pair, dec-initial}
 use Rattle.model.proofs.Lists.{before-ends, before-upto, upto-before}
 use Rattle.model.proofs.Views.{Viewed}
@@ -66,6 +66,11 @@ module _ (z : Execution) where
       not (inl a) (inr b) = omega arith
       not (inr a) (inl b) = omega arith
       not (inr a) (inr b) = omega arith
+
+  -- a location has one initial value at most
+  pub initial-one : (l : Location) (v w : ℕ) → witnessOf z .initial-state l v → witnessOf z .initial-state l w → v ≡ w
+  initial-one l v w (i, h, (a, n, d)) (j, g, (b, m, e)) =
+      sym d ∙ ap (λ (k : ℕ). z .initials .item k .value) (least-unique (λ k. EntryFor l (z .initials .item k)) i j (a, n) (b, m)) ∙ e
 
   module _ (r : ℕ) where
     -- the place's initial value is the location's

@@ -1,23 +1,24 @@
--- What a record that has the form and keeps the structure rules says is a well-formed event structure.
+-- Of a record that has the form, the structure rules are that what it says is a well-formed event structure, and rule 12.
 use Prim.Native.Nat.{ℕ, _<_}
-use mathlib.Core.Path.{_≡_, sym, ap₂, _∙_}
-use mathlib.Core.Logic.{_⊎_, inl, inr, ⊎-elim, Dec·and}
+use mathlib.Core.Path.{_≡_, refl, sym, ap₂, _∙_}
+use mathlib.Core.Logic.{_⊎_, inl, inr, ⊎-elim, Dec·and, _↔_}
 use mathlib.Core.List.{[], _∷_}
 use native.Mathlib.Omega.{arith}
 use native.Mathlib.Decide.{ℕ-discrete}
 use Rattle.order.specs.Relation.{Chain}
-use Rattle.order.specs.Rule.{AllKept}
+use Rattle.order.specs.Rule.{Kept, rule, entryRule, AllKept}
 use Rattle.order.proofs.Numbers.{dec-some}
+use Rattle.order.proofs.Searches.{of-any}
 use Rattle.record.specs.Execution.{Instruction, Execution}
 use Rattle.record.specs.Formed.{Formed}
-use Rattle.structure.specs.Structure.{Joining, Unordered, Eventless, Repeated, structureRules}
+use Rattle.structure.specs.Structure.{Joining, pairOf, Unordered, Eventless, Repeated, structureRules}
 use Rattle.record.specs.Words.{SameInstruction, SameRegister, RegisterWrite, Belongs, Causes, OfLock}
 use Rattle.record.specs.declared.Event.{Event}
 use Rattle.model.specs.Hol.{PER, wfes}
 use Rattle.model.specs.Model.{Writes}
 use Rattle.model.specs.Says.{structureOf}
-use Rattle.order.proofs.Rules.{kept-cycle}
-use Rattle.model.proofs.Cycles.{not-acyclic}
+use Rattle.order.proofs.Rules.{cycle-kept, kept-cycle}
+use Rattle.model.proofs.Cycles.{acyclic-not, not-acyclic}
 use Rattle.model.proofs.Decisions.{certain, below-or, dec-instruction}
 use Rattle.model.proofs.Words.{writes-is, register-is, instruction-is, location-register}
 
@@ -109,3 +110,35 @@ module _ (z : Execution) (f : Formed z) (k : AllKept (structureRules z)) where
     atom-whole = λ i h a b x g e. let s = instruction-is z f a b .0 e in (g, (sym (s .0) ∙ x .1 .0, sym (s .1) ∙ x .1 .1));
     own-registers = λ e h p r d. sym (location-register (z .events .item e) p r d .1);
   }
+
+-- ---- and the other way
+
+module _ (z : Execution) (f : Formed z) (c : wfes (structureOf z)) where
+  -- 10
+  one-joining : Kept (entryRule 10 (Joining z) (pairOf z))
+  unfolding Joining Causes
+  one-joining w q =
+      let (i, (h, g)) = of-any 1 (Joining z) w q in
+      g (instruction-is z f _ _ .0 (c .one-instruction _ _ (i, h, (refl, refl))))
+
+  -- 13
+  one-eventless : Kept (rule 13 1 (Eventless z))
+  unfolding Eventless
+  one-eventless w q =
+      let (i, (h, n)) = of-any 1 (Eventless z) w q in
+      let (e, (l, b)) = c .atoms .inhabited i h in
+      n e l b
+
+  -- 14: an entry and one that it repeats have an event in common
+  one-repeated : Kept (rule 14 1 (Repeated z))
+  unfolding Repeated
+  one-repeated w q =
+      let (i, (h, (j, l, d))) = of-any 1 (Repeated z) w q in
+      let (e, o) = c .atoms .inhabited j (omega arith) in
+      c .atoms .disjoint j i (omega arith) h (λ s. omega arith) e o (rw d at o)
+
+  pub formed-structure : Kept (rule 12 2 (Unordered z)) → AllKept (structureRules z)
+  formed-structure k = (one-joining, (cycle-kept _ 11 (acyclic-not _ (c .acyclic-causality)), (k, (one-eventless, (one-repeated, tt)))))
+
+pub structure-is : (z : Execution) → Formed z → AllKept (structureRules z) ↔ (wfes (structureOf z) × Kept (rule 12 2 (Unordered z)))
+structure-is z f = (λ k. (structure-formed z f k, k .1 .1 .0), λ (c, k). formed-structure z f c k)

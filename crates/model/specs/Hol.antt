@@ -1,7 +1,9 @@
--- The model as the HOL specification has it: its types (part II), its axioms (part IV) and the well-formedness of part XIII.
--- The names are its own, with a hyphen for each underscore. Left out, as in the rules: fences and final states.
--- A set is a predicate, an event is its number. Where it matches on an action, the action is said to be of that form.
--- linear-order, strict-linear-order, strict, acyclic and PER are words of its library.
+-- The model as the HOL specification has it: its types (part II, iid of part I), its axioms (part IV) and the well-formedness of part XIII.
+-- The names are its own, with a hyphen for each underscore. Its valid_execution has neither fences nor final states: nothing of it is left out.
+-- An event is its number, and this serves as its eiid: HOL's eiid tells events apart within an instruction only, so this is a renumbering.
+-- Where it matches on an action, the action is said to be of that form.
+-- A set is a predicate; finite is that a number bounds it; restrict is its `|`; bigunion and strict_linearisations are written out where they
+-- are used. linear-order, strict-linear-order, strict, acyclic and PER are words of its library.
 use Prim.Native.Nat.{ℕ, _<_}
 use mathlib.Core.Path.{_≡_}
 use mathlib.Core.Logic.{_⊎_, _↔_}
@@ -27,7 +29,7 @@ pub record Iid : Type 0 where
 abbrev pub Set : Type 1
 Set = ℕ → Type 0
 
--- a set of sets is a family, each of them named once: which numbers name one, and the members of each
+-- a set of sets is a family: which numbers name one, and the members of each; without PER one set may have two names, under it each has one
 pub record EventStructure : Type 1 where
   pub procs : Set
   pub events : Set
@@ -37,7 +39,8 @@ pub record EventStructure : Type 1 where
   pub atoms : Set
   pub atomicity : ℕ → Set
 
--- initial-state l v: the initial state of l is SOME v
+-- initial-state l v: the initial state of l is SOME v. In HOL it is a partial function, here a relation; of what a record says, no l has two
+-- values (`initial-one` in proofs/Sources.antt)
 pub record ExecutionWitness : Type 1 where
   pub initial-state : Location → ℕ → Type 0
   pub vo : ℕ → Rel
@@ -125,11 +128,12 @@ module _ (E : EventStructure) where
   preserved-program-order a b =
       po-strict a b
       × (at-one-register a b
-      ⊎ ((mem-load a × mem-load b)
-      ⊎ ((mem-store a × mem-store b)
-      ⊎ ((mem-load a × mem-store b)
-      ⊎ ((mem-store a × mem-load b × (loc a ≡ loc b))
-      ⊎ (((mem-load a ⊎ mem-store a) × locked b) ⊎ (locked a × (mem-load b ⊎ mem-store b))))))))
+      ⊎ (mem-load a × mem-load b)
+      ⊎ (mem-store a × mem-store b)
+      ⊎ (mem-load a × mem-store b)
+      ⊎ (mem-store a × mem-load b × (loc a ≡ loc b))
+      ⊎ ((mem-load a ⊎ mem-store a) × locked b)
+      ⊎ (locked a × (mem-load b ⊎ mem-store b)))
 
   abbrev pub viewed-events : ℕ → Set
   viewed-events p e = E .events e × ((proc e ≡ p) ⊎ mem-store e)
@@ -167,7 +171,10 @@ reads-from-map-candidates E rfmap =
 abbrev pub happens-before : EventStructure → ExecutionWitness → Rel
 happens-before E X a b =
     E .intra-causality a b
-    ⊎ (preserved-program-order E a b ⊎ (X .write-serialization a b ⊎ (X .lock-serialization a b ⊎ X .rfmap a b)))
+    ⊎ preserved-program-order E a b
+    ⊎ X .write-serialization a b
+    ⊎ X .lock-serialization a b
+    ⊎ X .rfmap a b
 
 abbrev pub check-causality : EventStructure → (ℕ → Rel) → Rel → Type 0
 check-causality E vo happensbefore = (p : ℕ) → E .procs p → acyclic (union (strict (vo p)) happensbefore)

@@ -36,9 +36,12 @@ KeepsOrder z a b =
     let x = z .events .item a in
     let y = z .events .item b in
     SameRegister x y
-    ⊎ ((Load x × Load y)
-    ⊎ ((Load x × Store y)
-    ⊎ ((Store x × Store y) ⊎ ((Store x × (Load y × (x .place ≡ y .place))) ⊎ ((Memory x × Locked z b) ⊎ (Locked z a × Memory y))))))
+    ⊎ (Load x × Load y)
+    ⊎ (Load x × Store y)
+    ⊎ (Store x × Store y)
+    ⊎ (Store x × (Load y × (x .place ≡ y .place)))
+    ⊎ (Memory x × Locked z b)
+    ⊎ (Locked z a × Memory y)
 
 -- preserved order
 abbrev pub Preserved : Execution → Rel
@@ -67,7 +70,7 @@ Sourced z r = (w : ℕ) × Source z w r
 
 -- happens-before: the union, without chaining
 unfoldable pub HappensBefore : Execution → Rel
-HappensBefore z a b = Causes z a b ⊎ (Preserved z a b ⊎ (StoreOrder z a b ⊎ (LockedOrder z a b ⊎ Source z a b)))
+HappensBefore z a b = Causes z a b ⊎ Preserved z a b ⊎ StoreOrder z a b ⊎ LockedOrder z a b ⊎ Source z a b
 
 -- processor p sees its own events and all memory stores
 abbrev pub Sees : Execution → ℕ → ℕ → Type 0

@@ -30,10 +30,11 @@ WrongStore z e = Misplaced ((e < z .events .size) × Store (z .events .item e)) 
 unfoldable pub WrongLock : Execution → ℕ → Type 0
 WrongLock z i = Misplaced (i < z .locks .size) (z .lockOrder) i
 
--- 23: section 8 pair i is not a write and a read of one place and value
+-- a write and a read of one place and value
 abbrev pub WriteAndRead : Event → Event → Type 0
 WriteAndRead w r = Writes w × (Reads r × (SamePlace w r × (w .value ≡ r .value)))
 
+-- 23: section 8 pair i is not a write and a read of one place and value
 unfoldable pub WrongSource : Execution → ℕ → Type 0
 WrongSource z i =
     (i < z .sources .size) × (WriteAndRead (z .events .item (z .sources .item i .from)) (z .events .item (z .sources .item i .to)) → ⊥)
@@ -104,14 +105,22 @@ witnessRules z =
     ∷ entryRule 23 (WrongSource z) (sourceOf z)
     ∷ []
 
+-- 24: for some p, p's view order and happens-before together have a cycle
+abbrev pub rule24 : Execution → Rule
+rule24 z = cyclesRule 24 (z .processors) (OrderFor z)
+
+abbrev pub rule25 : Execution → Rule
+rule25 z = rule 25 4 (Overwritten z)
+
+abbrev pub rule26 : Execution → Rule
+rule26 z = record { number = 26; Breaks = WrongInitial z; shown = λ w. w }
+
+abbrev pub rule27 : Execution → Rule
+rule27 z = rule 27 4 (Torn z)
+
 -- the rules about the orders
 abbrev pub orderRules : Execution → List Rule
-orderRules z =
-    cyclesRule 24 (z .processors) (OrderFor z)
-    ∷ rule 25 4 (Overwritten z)
-    ∷ record { number = 26; Breaks = WrongInitial z; shown = λ w. w }
-    ∷ rule 27 4 (Torn z)
-    ∷ []
+orderRules z = rule24 z ∷ rule25 z ∷ rule26 z ∷ rule27 z ∷ []
 
 -- the rules of the check, behind form and structure
 abbrev pub checkRules : Execution → List Rule

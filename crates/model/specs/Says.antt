@@ -1,16 +1,17 @@
 -- What a record says, in the terms of the HOL specification.
 use Prim.Native.Nat.{ℕ, zero, suc, _<_}
 use mathlib.Core.Path.{_≡_}
+use mathlib.Core.Logic.{_↔_}
 use Rattle.order.specs.Least.{Some, None}
 use Rattle.order.specs.Relation.{Rel}
 use Rattle.record.specs.Execution.{Items, Initial, Execution}
 use Rattle.record.specs.Words.{Causes, OfLock}
 use Rattle.record.specs.declared.Event.{Event}
-use Rattle.model.specs.Model.{Before, StoreOrder, LockedOrder, Source}
-use Rattle.model.specs.Rules.{WrongStore, WrongLock}
+use Rattle.model.specs.Model.{Store, Before, StoreOrder, LockedOrder, Source}
+use Rattle.model.specs.Rules.{Stands}
 use Rattle.model.specs.Hol.{R, W, Location, LOCATION-REG, LOCATION-MEM, Action, ACCESS, EventStructure, ExecutionWitness}
 
--- the action of an event, by its kind
+-- the action of an event, by its kind; the form has no kind over 3
 abbrev pub actionBy : ℕ → Event → Action
 actionBy zero x = ACCESS R (LOCATION-MEM (x .place)) (x .value)
 actionBy (suc zero) x = ACCESS W (LOCATION-MEM (x .place)) (x .value)
@@ -48,11 +49,16 @@ witnessOf z = record {
   rfmap = Source z;
 }
 
--- The lists are orders: the rules speak of the lists, and the relations that these spell do not tell whether an event stands in a view
--- twice, side by side, nor whether a store that is alone at its address, or a locked entry that is alone, stands in its list at all.
+-- What the rules ask of the lists and the orders that the lists spell do not show. They do not show
+-- an event that stands in a view twice, side by side;
+-- a store, alone at its address, that is missing from section 6;
+-- an event that is no store and stands in section 6 ordered with nothing: a register's, or a load alone at its address there;
+-- a locked entry, the only one, that is missing from section 7.
+-- That no store and no locked entry stands twice, they show: it would be ordered with itself.
 pub record Spelled (z : Execution) : Type 0 where
   -- no event stands in a view twice
   pub views : (p : ℕ) → p < z .processors → (e : ℕ) → Before (z .view p) e e → ⊥
-  -- section 6 is the memory stores, section 7 the locked entries, each once
-  pub stores : (e : ℕ) → WrongStore z e → ⊥
-  pub locks : (i : ℕ) → WrongLock z i → ⊥
+  -- section 6 has the memory stores and nothing else
+  pub stores : (e : ℕ) → Stands (z .stores) e ↔ ((e < z .events .size) × Store (z .events .item e))
+  -- section 7 has the locked entries and nothing else
+  pub locks : (i : ℕ) → Stands (z .lockOrder) i ↔ (i < z .locks .size)

@@ -7,11 +7,17 @@ use native.Mathlib.Omega.{arith}
 use native.Mathlib.Decide.{decLt}
 use lib.ListN.{length, length-append}
 use Rattle.order.specs.Relation.{Rel, Trail, Cycle, Cyclic, Below, Absent, Once}
-use Rattle.order.specs.Walk.{Walk, Greedy}
+use Rattle.order.specs.Least.{Least}
+use Rattle.order.specs.Walk.{Walk}
 use Rattle.order.specs.Dictionary.{Lex}
 use Rattle.order.specs.Shown.{AtLeast, Shown}
 use Rattle.order.proofs.Walks.{short}
 use Rattle.order.proofs.Dictionaries.{lex-both}
+
+-- steps from v to s through the list, each to the least event from which s is as many steps away as are left
+abbrev pub Greedy : Rel → ℕ → ℕ → List ℕ → Type 0
+Greedy R s v [] = R v s
+Greedy R s v (c ∷ m) = Least (λ x. R v x × Walk R (suc (length m)) x s) c × Greedy R s c m
 
 mem-split : (l : List ℕ) (x : ℕ) → List·Memᴰ x l → (p : List ℕ) × (q : List ℕ) × (l ≡ p ++ x ∷ q)
 mem-split [] x h = absurd (List·Memᴰ·not-nil h)

@@ -53,6 +53,18 @@ judged-behind [] rs a e k j = j
 judged-behind (q ∷ qs) rs a e k (inl s) = absurd (k .0 (s .0 .0) (s .0 .1 .has))
 judged-behind (q ∷ qs) rs a e k (inr j) = judged-behind qs rs a e (k .1) (j .1)
 
+-- no rule has the number a
+abbrev pub Otherwise : ℕ → List Rule → Type 0
+Otherwise a [] = Unit {0}
+Otherwise a (q ∷ qs) = (a ≡ q .number → ⊥) × Otherwise a qs
+
+-- rules that do not have the number of the answer are kept
+pub judged-kept : (qs rs : List Rule) (a : ℕ) (e : List ℕ) → Otherwise a qs → Judged (qs ++ rs) a e → AllKept qs
+unfolding Judged
+judged-kept [] rs a e o j = tt
+judged-kept (q ∷ qs) rs a e o (inl j) = absurd (o .0 (j .1))
+judged-kept (q ∷ qs) rs a e o (inr j) = (j .0, judged-kept qs rs a e (o .1) (j .1))
+
 -- ---- a check, rule after rule
 pub rule-shown : (q : Rule) (qs : List Rule) (b a : List ℕ) (k : ℕ) → Ruled q b a k → 0 < k → Given (Judged (q ∷ qs)) b a (q .number) k
 unfolding Judged

@@ -1,6 +1,6 @@
 -- Numbers: a search below a bound decides, least numbers, and the pigeonhole principle.
 use Prim.Native.Nat.{ℕ, zero, suc, _<_}
-use mathlib.Core.Path.{_≡_, sym, _∙_}
+use mathlib.Core.Path.{_≡_, refl, sym, _∙_}
 use mathlib.Core.Logic.{_⊎_, inl, inr, ⊎-elim}
 use native.Mathlib.Omega.{arith}
 use Rattle.order.specs.Least.{Some, None, Least, Counted}
@@ -104,3 +104,13 @@ counted-unique (suc n) P r s (inl (p, (m, e, c))) (inl (q, (o, f, d))) = omega (
 counted-unique (suc n) P r s (inl c) (inr d) = absurd (d .0 (c .0))
 counted-unique (suc n) P r s (inr c) (inl d) = absurd (c .0 (d .0))
 counted-unique (suc n) P r s (inr c) (inr d) = counted-unique n P r s (c .1) (d .1)
+
+-- there is a count where the property can be told
+pub counted-some : (n : ℕ) (P : ℕ → Type 0) → ((k : ℕ) → Dec (P k)) → (r : ℕ) × Counted n P r
+unfolding Counted
+counted-some zero P d = (0, refl)
+counted-some (suc n) P d = go (d n) (counted-some n P d)
+  where
+    go : Dec (P n) → (r : ℕ) × Counted n P r → (r : ℕ) × Counted (suc n) P r
+    go (yes p) (r, c) = (suc r, inl (p, (r, refl, c)))
+    go (no g) (r, c) = (r, inr (g, c))

@@ -61,14 +61,6 @@ found-less n r k P h p l = go (decLt r n)
     go (yes g) = g
     go (no g) = absurd (h .none k (omega arith) p)
 
--- what a rule's search hands out
-pub rule-none : (a n j : ℕ) (P : About (suc j)) (r : ℕ) (b : List ℕ) → ((k : ℕ) → Any j (P k) → k < n) → Hit n (λ k. Any j (P k)) r → n ≤ r
-    → Ruled (rule a (suc j) P) b b 0
-rule-none a n j P r b f h l = inl (not-found n j P r f h l, refl, refl)
-
-pub rule-found : (a n : ℕ) (P : About n) (w b c : List ℕ) (k : ℕ) → Firstly (Of n P) w → 0 < k → Written w b c k → Ruled (rule a n P) b c k
-rule-found a n P w b c k f l h = inr (w, (w, f, refl), l, h)
-
 -- P holds of any n numbers of which Q holds
 abbrev pub From : (n : ℕ) → About n → About n → Type 0
 From zero P Q = Q → P

@@ -60,11 +60,12 @@ Any (suc n) P = (k : ℕ) × Any n (P k)
 abbrev pub rule : ℕ → (n : ℕ) → About n → Rule
 rule a n P = record { number = a; Breaks = Of n P; shown = λ w. w }
 
--- no entry has P; the evidence is what is shown of the first that has
+-- what is shown of the entry that the list names
 abbrev pub shownFirst : (ℕ → List ℕ) → List ℕ → List ℕ
 shownFirst show [] = []
 shownFirst show (i ∷ w) = show i
 
+-- no entry has P; the evidence is what is shown of the first that has
 abbrev pub entryRule : ℕ → (ℕ → Type 0) → (ℕ → List ℕ) → Rule
 entryRule a P show = record { number = a; Breaks = Of 1 P; shown = shownFirst show }
 
@@ -75,6 +76,7 @@ abbrev pub Round : Rel → List ℕ → Type 0
 Round R [] = ⊥
 Round R (k ∷ l) = (k ≡ length l) × Cycle R l × Begun l
 
+-- the cycle, without its length
 abbrev pub tail : List ℕ → List ℕ
 tail [] = []
 tail (k ∷ l) = l
@@ -88,6 +90,7 @@ abbrev pub Rounds : ℕ → (ℕ → Rel) → List ℕ → Type 0
 Rounds n R [] = ⊥
 Rounds n R (p ∷ w) = (p < n) × Round (R p) w
 
+-- p and the cycle
 abbrev pub tailAfter : List ℕ → List ℕ
 tailAfter [] = []
 tailAfter (p ∷ w) = p ∷ tail w

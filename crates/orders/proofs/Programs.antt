@@ -6,10 +6,10 @@ use mathlib.Core.List.{List}
 use native.Mathlib.Omega.{arith}
 use native.Mathlib.Decide.{decLt}
 use Rattle.order.proofs.Numbers.{last-or}
-use Rattle.rows.specs.Members.{In, Is, Member, value}
+use Rattle.rows.specs.Members.{In, Is, Member}
 use Rattle.rows.specs.Table.{rel, Adds}
 use Rattle.rows.specs.declared.Set.{Set}
-use Rattle.rows.proofs.Members.{dec-in, subset-less}
+use Rattle.rows.proofs.Members.{value, dec-in, subset-less}
 use Rattle.rows.proofs.Table.{adds-none, adds-as, adds-then}
 use Rattle.form.specs.Right.{Right}
 use Rattle.record.specs.Execution.{Execution}

@@ -57,7 +57,7 @@ among-within a (b ∷ l) m h x =
     go p more (inl e) = subst (Among m) (sym e) p
     go p more (inr r) = more r
 
-form-among : (a : ℕ) → 2 ≤ a → a ≤ 5 → Among (2 ∷ 3 ∷ 4 ∷ 5 ∷ []) a
+pub form-among : (a : ℕ) → 2 ≤ a → a ≤ 5 → Among (2 ∷ 3 ∷ 4 ∷ 5 ∷ []) a
 form-among a h g = go (decLt a 3) (decLt a 4) (decLt a 5)
   where
     go : Dec (a < 3) → Dec (a < 4) → Dec (a < 5) → Among (2 ∷ 3 ∷ 4 ∷ 5 ∷ []) a

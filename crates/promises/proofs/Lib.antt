@@ -1,3 +1,3 @@
 pub mod Answering
-pub mod Cycling
+pub mod Decided
 pub mod Promises

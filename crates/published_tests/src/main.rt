@@ -1,23 +1,15 @@
 // Runs the published tests of standard input, which says how they are written. A line for each: its name, how many candidate
 // witnesses were judged, how many of them got 0, what that makes of the outcome, and what the paper says of it.
+use candidates::Tally;
 use libc::STDIN_FILENO;
-use libc::STDOUT_FILENO;
 
-mod candidates;
 mod structures;
 mod text;
-
-use candidates::Tally;
-
-fn print_number(x: u64) {
-    io::write_all(STDOUT_FILENO, b" ");
-    io::print_decimal(STDOUT_FILENO, x);
-}
 
 // Prints the bytes from `from` to before `to`.
 fn print_part(s: &[u8], from: usize, to: usize) {
     if from <= to && to <= s.len() {
-        io::write_all(STDOUT_FILENO, &s[from..to]);
+        printing::text(&s[from..to]);
     }
 }
 
@@ -41,22 +33,22 @@ fn agrees(s: &[u8], i: usize, t: Tally) -> bool {
 
 fn print_found(t: Tally) {
     if t.open {
-        io::write_all(STDOUT_FILENO, b" open ");
+        printing::text(b" open ");
     } else if 0 < t.valid {
-        io::write_all(STDOUT_FILENO, b" allowed ");
+        printing::text(b" allowed ");
     } else {
-        io::write_all(STDOUT_FILENO, b" forbidden ");
+        printing::text(b" forbidden ");
     }
 }
 
 // Prints what was found of the test that the line at i begins.
 fn print_test(s: &[u8], i: usize, t: Tally) {
     print_word(s, i, 1);
-    print_number(t.judged);
-    print_number(t.valid);
+    printing::number(t.judged);
+    printing::number(t.valid);
     print_found(t);
     print_word(s, i, 2);
-    io::write_all(STDOUT_FILENO, b"\n");
+    printing::text(b"\n");
 }
 
 // Runs the test that the line at i begins.
@@ -95,10 +87,10 @@ fn run_all(s: &[u8]) {
         }
         i = text::next_line(s, i);
     }
-    io::print_decimal(STDOUT_FILENO, tests);
-    io::write_all(STDOUT_FILENO, b" tests,");
-    print_number(agreed);
-    io::write_all(STDOUT_FILENO, b" as published\n");
+    printing::decimal(tests);
+    printing::text(b" tests,");
+    printing::number(agreed);
+    printing::text(b" as published\n");
 }
 
 // Runs the tests in the first k bytes.

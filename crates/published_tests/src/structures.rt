@@ -1,32 +1,11 @@
 // Sections 0 to 5 of a record, from the lines of a structure, and the trial of all its candidates.
-use crate::candidates;
-use crate::candidates::Outcome;
-use crate::candidates::Tally;
 use crate::text;
 use crate::text::field;
-
-// Writes a byte, and says where the next one goes; nothing where there is no room.
-pub fn put(rec: &mut [u8], at: usize, x: u8) -> usize {
-    if at < rec.len() {
-        rec[at] = x;
-        return at + 1;
-    }
-    at
-}
-
-fn put1(rec: &mut [u8], at: usize, x: u32) -> usize {
-    put(rec, at, (x % 256) as u8)
-}
-
-pub fn put2(rec: &mut [u8], at: usize, x: u32) -> usize {
-    let next = put1(rec, at, x);
-    put1(rec, next, x / 256)
-}
-
-fn put4(rec: &mut [u8], at: usize, x: u32) -> usize {
-    let next = put2(rec, at, x);
-    put2(rec, next, x / 65536)
-}
+use candidates::Outcome;
+use candidates::Tally;
+use candidates::bytes::put1;
+use candidates::bytes::put2;
+use candidates::bytes::put4;
 
 // The section that a line with this first letter is of, or 0.
 fn section_of(c: u8) -> u32 {

@@ -12,6 +12,7 @@ use Rattle.form.specs.Whole.{head, tail, body, whole}
 use Rattle.form.specs.declared.Fault.{Fault}
 use Rattle.form.specs.declared.Step.the-variants.{Stop}
 use Rattle.reader.specs.Entries.{firstOf, entryOf, viewOf, entryFrom, viewFrom, itemAt, openAnswer, openPart}
+use Rattle.reader.specs.Walk.{listOf, entriesOf, sectionsOf, viewsOf, allEntries}
 use Rattle.reader.specs.declared.Item.{Item}
 use Rattle.reader.specs.declared.Item.the-variants.{Entry, Done}
 use Rattle.reader.specs.declared.Reader.{Reader}
@@ -75,6 +76,11 @@ s1-entries = (refl, refl, refl, refl, refl)
 s1-ends : (itemAt s1 98 ≡ Done) × (itemAt s1 102 ≡ Done)
 unfolding s1 num width start count entryAt viewStart firstOf entryOf viewOf entryFrom viewFrom itemAt
 s1-ends = (refl, refl)
+
+-- all of them
+s1-all : allEntries s1 ≡ Entry 2 4 12 ∷ Entry 2 16 12 ∷ Entry 2 28 12 ∷ Entry 2 40 12 ∷ Entry 5 58 12 ∷ Entry 5 70 12 ∷ Entry 6 84 1 ∷ Entry 6 85 1 ∷ Entry 9 92 5 ∷ Entry 9 97 5 ∷ []
+unfolding s1 num width start count entryAt viewStart entryOf viewOf listOf entriesOf sectionsOf viewsOf allEntries
+s1-all = refl
 
 -- no bytes are refused by 2, which leaves no bytes
 none-refused : (openAnswer [] ≡ 2) × (openPart [] ≡ [])

@@ -5,3 +5,4 @@ pub mod Lent
 pub mod Passed
 pub mod Spaced
 pub mod Walking
+pub mod Walks

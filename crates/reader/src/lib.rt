@@ -3,6 +3,7 @@
 // answer of reading, and a refused record is handed on as no bytes, which hold no entry.
 ghost use mathlib.Core.Path.{_≡_};
 ghost use Prim.Native.Nat.{ℕ, _+_, _*_, _≤_, _<_};
+ghost use Rattle.lent.specs.Part.{PartAt};
 ghost use Rattle.form.specs.Place.{start};
 ghost use Rattle.reader.specs.Entries.{viewFrom, itemAt, openAnswer, openPart};
 use form::Step;
@@ -88,7 +89,7 @@ pub fn item_at(s: &[u8], at: usize) -> Item
 // The answer of reading, and what a reader may be opened over: the record itself, or no bytes where it is refused.
 pub fn opened<'a>(s: &'a [u8], answer: &mut u16) -> &'a [u8]
     ensures answer { λ r. ⌜ now (answer .exit) ≡ openAnswer (now (s .entry)) ⌝ }
-    ensures part { λ r. ⌜ now r ≡ openPart (now (s .entry)) ⌝ }
+    ensures part { λ r. ⌜ (now r ≡ openPart (now (s .entry))) × PartAt (s .entry) 0 r ⌝ }
 {
     match whole(s) {
         Step::Stop(f) => {
@@ -125,7 +126,7 @@ pub fn moved<'a>(r: Reader<'a>, at: usize) -> Reader<'a>
 
 // Opened once: the answer of reading, and a reader at the first byte of what `opened` hands on.
 pub fn open<'a>(s: &'a [u8], answer: &mut u16) -> Reader<'a>
-    ensures { λ r. ⌜ (now (answer .exit) ≡ openAnswer (now (s .entry))) × (now (r .src) ≡ openPart (now (s .entry))) × (r .at ≡ 0) ⌝ }
+    ensures { λ r. ⌜ (now (answer .exit) ≡ openAnswer (now (s .entry))) × (now (r .src) ≡ openPart (now (s .entry))) × PartAt (s .entry) 0 (r .src) × (r .at ≡ 0) ⌝ }
 {
     new(opened(s, answer))
 }

@@ -1,10 +1,7 @@
 // Readings of slot case S1, cut at every length and with every byte in turn set to 255, and of records at the limits of
 // sections 2 and 4: a line each, with the answer, how many entries its evidence has, and these.
-ghost use mathlib.Core.Path.{_≡_};
-ghost use Prim.Native.Nat.{_+_, _*_, _≤_, _<_};
-ghost use lib.ListN.{length};
+ghost use Prim.Native.Nat.{_≤_, _<_};
 use form::Step;
-use libc::STDOUT_FILENO;
 
 const S1: [u8; 102] = [
     1,
@@ -111,56 +108,31 @@ const S1: [u8; 102] = [
     0,
 ];
 
-fn wide(x: u16) -> u64 {
-    x as u64
-}
-
-fn print_number(x: u64) {
-    io::write_all(STDOUT_FILENO, b" ");
-    io::print_decimal(STDOUT_FILENO, x);
-}
-
-// Prints the first k numbers.
-fn print_list(l: &[u16], k: usize) {
-    let mut i = 0;
-    while i < l.len() {
-        if i == k {
-            return;
-        }
-        print_number(wide(l[i]));
-        i += 1;
-    }
-}
-
 // One line: what reading and the structure rules answer.
 fn print_examined(name: &[u8], number: usize, s: &[u8]) {
     let mut ev = [0u16; 65];
     let v = structure::examine::examine(s, &mut ev);
-    let k = v.count;
-    io::write_all(STDOUT_FILENO, name);
-    print_number(number as u64);
-    print_number(wide(v.answer));
-    print_number(k as u64);
-    print_list(&ev, k);
-    io::write_all(STDOUT_FILENO, b"\n");
+    printing::text(name);
+    printing::number(number as u64);
+    printing::verdict(v.answer, v.count, &ev, v.count);
 }
 
 // One line: what reading answers.
 fn print_read(name: &[u8], number: usize, s: &[u8]) {
-    io::write_all(STDOUT_FILENO, name);
-    print_number(number as u64);
+    printing::text(name);
+    printing::number(number as u64);
     match form::whole::whole(s) {
         Step::Stop(f) => {
-            print_number(wide(f.answer));
-            print_number(1);
-            print_number(wide(f.section));
+            printing::short(f.answer);
+            printing::number(1);
+            printing::short(f.section);
         }
         Step::Next(_) => {
-            print_number(0);
-            print_number(0);
+            printing::number(0);
+            printing::number(0);
         }
     }
-    io::write_all(STDOUT_FILENO, b"\n");
+    printing::text(b"\n");
 }
 
 fn print_cuts(s: &[u8]) {

@@ -7,7 +7,7 @@ use native.Mathlib.Omega.{arith}
 use native.Mathlib.Nat.{add-zero, add-assoc, mul-comm, mul-one}
 use lib.ListN.{length, getD, length-append, List·getD-append}
 use lib.Seq.{getD-append-add}
-use Rattle.form.specs.Bytes.{num}
+use Rattle.form.specs.Bytes.{num, twoBytes, counted}
 use Rattle.form.specs.Form.{Section, width, limit}
 use Rattle.form.specs.Right.{Block}
 use Rattle.form.specs.Seen.{Leading, Seen}
@@ -18,7 +18,7 @@ use Rattle.form.proofs.Seeing.{seen-numbers, seen-locks, seen-pairs}
 use Rattle.record.specs.Execution.{Pair}
 use Rattle.record.specs.Formed.{PairFormed}
 use Rattle.record.specs.Says.{pairAt}
-use Rattle.readoff.specs.Bytes.{twoBytes, counted, pairs}
+use Rattle.readoff.specs.Bytes.{pairs}
 
 -- a byte of b, where b stands
 byte-back : (a b w : List ℕ) (i : ℕ) → i < length b → num 1 (a ++ (b ++ w)) (length a + i) ≡ getD b i 0

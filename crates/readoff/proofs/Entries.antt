@@ -15,18 +15,17 @@ use Rattle.order.proofs.Searches.{none-next}
 use Rattle.rows.specs.Members.{In, Is}
 use Rattle.rows.specs.Table.{rel}
 use Rattle.rows.specs.declared.Set.{Set}
-use Rattle.form.specs.Bytes.{num}
+use Rattle.form.specs.Bytes.{num, twoBytes, counted}
 use Rattle.form.proofs.Numbers.{num-one}
 use Rattle.record.specs.Execution.{Execution}
 use Rattle.record.specs.Words.{OfLock}
 use Rattle.facts.specs.Facts.{Entered}
 use Rattle.structure.specs.Structure.{Repeated}
-use Rattle.replay.specs.Sequence.{steps}
+use Rattle.sequences.specs.Sequence.{steps}
 use Rattle.replay.specs.Known.{Narrowed}
-use Rattle.replay.specs.ReadOff.{choose, entriesAt, locksFrom}
-use Rattle.replay.proofs.Pasts.{Past, past-next}
-use Rattle.replay.proofs.Locking.{Of, first-decides, shared}
-use Rattle.readoff.specs.Bytes.{twoBytes, counted}
+use Rattle.sequences.specs.ReadOff.{choose, entriesAt, locksFrom}
+use Rattle.sequences.proofs.Pasts.{Past, past-next}
+use Rattle.sequences.proofs.Locking.{Of, first-decides, shared}
 use Rattle.lent.specs.Put.{Put, PutTo}
 use Rattle.readoff.proofs.Parts.{Part, part-none, part-more, part-ends, part-done}
 

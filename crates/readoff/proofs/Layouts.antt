@@ -7,7 +7,7 @@ use native.Mathlib.Omega.{arith}
 use native.Mathlib.Decide.{decLt}
 use native.Mathlib.Nat.{mul-one}
 use lib.ListN.{length, getD, length-append}
-use Rattle.form.specs.Bytes.{num}
+use Rattle.form.specs.Bytes.{num, twoBytes, counted}
 use Rattle.form.specs.Form.{width}
 use Rattle.form.specs.Place.{start, count, entryAt, viewStart, counts}
 use Rattle.form.specs.Right.{Block}
@@ -16,9 +16,9 @@ use Rattle.record.specs.Execution.{Items, Pair, Execution}
 use Rattle.record.specs.Formed.{Each, Formed}
 use Rattle.record.specs.Says.{pairAt, entriesOf, executionOf}
 use Rattle.model.specs.Agree.{Alike}
-use Rattle.replay.specs.Sequence.{steps, itemsOf}
-use Rattle.replay.specs.ReadOff.{storesOf, locksFrom, sourcesFrom, viewOf, readOff}
-use Rattle.readoff.specs.Bytes.{twoBytes, counted, pairs, views, witness}
+use Rattle.sequences.specs.Sequence.{steps, itemsOf}
+use Rattle.sequences.specs.ReadOff.{storesOf, locksFrom, sourcesFrom, viewOf, readOff}
+use Rattle.readoff.specs.Bytes.{pairs, views, witness}
 use Rattle.readoff.proofs.Blocks.{count-back, counted-item, counted-block, locks-block, none, pairs-length, pairs-block, pairs-item}
 
 -- b is what r has from `at` on

@@ -1,6 +1,5 @@
+pub mod Agreement
 pub mod Blocks
-pub mod Bounds
-pub mod Demand3
 pub mod Entries
 pub mod Layouts
 pub mod Pairings

@@ -15,15 +15,16 @@ use Rattle.record.specs.Execution.{Pair, Execution}
 use Rattle.facts.specs.Facts.{Placed, Classed}
 use Rattle.facts.specs.declared.Classes.{Classes}
 use Rattle.model.specs.Model.{Reads}
-use Rattle.replay.specs.Sequence.{steps}
+use Rattle.sequences.specs.Sequence.{steps}
 use Rattle.replay.specs.Known.{Narrowed, StateAt, SourceBefore}
-use Rattle.replay.specs.ReadOff.{choose, pairsTo, event, isRead, lastWriter, sourcesFrom}
+use Rattle.sequences.specs.ReadOff.{choose, pairsTo, event, isRead, lastWriter, sourcesFrom}
 use Rattle.replay.specs.declared.State.{State}
-use Rattle.replay.proofs.Pasts.{Past, past-next}
-use Rattle.replay.proofs.Sourcing.{Latest, last-writer, last-unique}
+use Rattle.sequences.proofs.Pasts.{Past, past-next}
+use Rattle.sequences.proofs.Sourcing.{Latest, last-writer, last-unique}
 use Rattle.replay.proofs.Stating.{read-known}
-use Rattle.replay.proofs.Tests.{read-decides}
-use Rattle.readoff.specs.Bytes.{twoBytes, pairs}
+use Rattle.sequences.proofs.Tests.{read-decides}
+use Rattle.form.specs.Bytes.{twoBytes}
+use Rattle.readoff.specs.Bytes.{pairs}
 use Rattle.lent.specs.Put.{Put, PutTo}
 use Rattle.readoff.proofs.Blocks.{pairs-length}
 use Rattle.readoff.proofs.Parts.{Part, part-none, part-more, part-ends, part-done}

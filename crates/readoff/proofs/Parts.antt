@@ -4,7 +4,7 @@ use mathlib.Core.Path.{_≡_, refl, sym, ap, _∙_}
 use mathlib.Core.List.{List, [], _∷_, _++_, append-assoc, append-nil}
 use native.Mathlib.Omega.{arith}
 use lib.ListN.{length, set, length-append}
-use Rattle.readoff.specs.Bytes.{twoBytes}
+use Rattle.form.specs.Bytes.{twoBytes}
 use Rattle.lent.specs.Put.{Put, PutTo}
 use Rattle.lent.proofs.Puts.{put-nothing, put-next, put-ahead}
 

@@ -10,10 +10,10 @@ use lib.Seq.{drop-cons}
 use Rattle.order.specs.Decides.{Decides}
 use Rattle.rows.specs.Members.{In}
 use Rattle.rows.specs.declared.Set.{Set}
-use Rattle.replay.specs.Sequence.{steps}
+use Rattle.sequences.specs.Sequence.{steps}
 use Rattle.replay.specs.Known.{Narrowed}
-use Rattle.replay.specs.ReadOff.{choose, picked}
-use Rattle.readoff.specs.Bytes.{twoBytes, counted}
+use Rattle.sequences.specs.ReadOff.{choose, picked}
+use Rattle.form.specs.Bytes.{twoBytes, counted}
 use Rattle.lent.specs.Put.{Put, PutTo}
 use Rattle.readoff.proofs.Parts.{Part, part-none, part-more, part-ends, part-done}
 

@@ -11,15 +11,15 @@ use Rattle.order.proofs.Judgements.{zero-judged}
 use Rattle.record.specs.Says.{executionOf}
 use Rattle.structure.proofs.Examining.{examination-unique, answered-judged}
 use Rattle.structure.proofs.Passing.{passed}
-use Rattle.model.specs.Demand2.{Passes}
+use Rattle.model.specs.Validity.{Passes}
 use Rattle.model.specs.Rules.{checkRules}
 use Rattle.judge.specs.Checked.{Checked}
-use Rattle.replay.specs.Sequence.{BrokenUp, onceRules, sequenceRules, replayRules}
+use Rattle.sequences.specs.Sequence.{BrokenUp, onceRules, sequenceRules, replayRules}
 use Rattle.replay.specs.Replayed.{Replayed}
 use Rattle.readoff.specs.Bytes.{bytesOf}
-use Rattle.readoff.specs.Promises.{Sequence}
 use Rattle.readoff.specs.Written.{WrittenOff, ReadOff}
-use Rattle.readoff.proofs.Demand3.{replay-agrees, break-answered}
+use Rattle.readoff.proofs.RoundTrips.{Sequence}
+use Rattle.readoff.proofs.Agreement.{replay-agrees, break-answered}
 
 module _ (s l : List ℕ) where
   written-unique : (before x y : List ℕ) (a b k m : ℕ) → a ≡ b → WrittenOff s l before x a k → WrittenOff s l before y b m → (k ≡ m) × (x ≡ y)

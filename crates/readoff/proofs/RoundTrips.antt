@@ -1,7 +1,7 @@
 -- The round trip: the record that is read off passes form and structure, says what was meant, and is short enough.
 use Prim.Native.Nat.{ℕ, _+_, _<_, _≤_}
 use mathlib.Core.Path.{_≡_, refl, sym, _∙_}
-use mathlib.Core.List.{List, [], _∷_, _++_}
+use mathlib.Core.List.{List, [], _++_}
 use native.Mathlib.Omega.{arith}
 use native.Mathlib.Decide.{ℕ-discrete, decLt}
 use lib.ListN.{length, take}
@@ -18,42 +18,19 @@ use Rattle.structure.specs.Examined.{examination}
 use Rattle.structure.specs.Structure.{Joining, Unordered, Eventless, Repeated, structureRules}
 use Rattle.structure.proofs.Passing.{passed}
 use Rattle.model.specs.Agree.{Agree}
-use Rattle.model.specs.Demand2.{Passes}
+use Rattle.model.specs.Validity.{Passes}
 use Rattle.model.proofs.Agreeing.{agree-sym, structure-agree}
-use Rattle.model.proofs.Lists.{Proper}
-use Rattle.replay.specs.Sequence.{steps, onceRules, sequenceRules}
-use Rattle.replay.specs.ReadOff.{readOff}
+use Rattle.sequences.specs.Sequence.{sequenceRules}
+use Rattle.sequences.specs.ReadOff.{readOff}
 use Rattle.readoff.specs.Bytes.{witness, bytesOf}
-use Rattle.readoff.specs.Promises.{RoundTrip}
-use Rattle.readoff.proofs.Bounds.{once-kept, sequence-proper, sequence-length, stores-short, stores-low, views-short, views-low, sources-short, sources-low, locks-short, locks-low}
+use Rattle.sequences.proofs.Bounds.{once-kept, off-formed}
 use Rattle.readoff.proofs.Layouts.{views-count, views-end, stores-alike, locks-alike, sources-alike, view-alike, stores-right, locks-right, sources-right, view-right}
 use Rattle.readoff.proofs.Prefixes.{prefix-length, prefix-form, prefix-processors, prefix-start, prefix-count, prefix-block, prefix-events, prefix-causes, prefix-locks, prefix-initials}
 use Rattle.readoff.proofs.Wholes.{right-whole}
 
--- what is read off has the form
-pub off-formed : (z : Execution) (l : List ℕ) → Formed z → AllKept (structureRules z) → AllKept (sequenceRules z l) → Formed (readOff z l)
-off-formed z l f s k = record {
-  processors = f .processors;
-  events = f .events;
-  causes = f .causes;
-  locks = f .locks;
-  stores = record { within = short (stores-short z l); each = stores-low z l full };
-  lockOrder = record { within = let h = locks-short z l full some in let m = f .locks .within in omega arith; each = locks-low z l full some };
-  sources = record { within = short (sources-short z l); each = sources-low z l full };
-  view = λ p h. record { within = short (views-short z l p); each = views-low z l full p };
-}
-  where
-    once : AllKept (onceRules z l)
-    once = once-kept z l k
-
-    full : Proper (steps l) (λ e. e < z .events .size)
-    full = sequence-proper z l once
-
-    some : (i : ℕ) → Eventless z i → ⊥
-    some i q = s .1 .1 .1 .0 (i ∷ []) q
-
-    short : {n : ℕ} → n ≤ length l → n ≤ 64
-    short h = let e = sequence-length z l once in let m = f .events .within in omega arith
+-- the record s passes form and structure, and the list holds each of its events once, those of each locked instruction together
+abbrev pub Sequence : List ℕ → List ℕ → Type 0
+Sequence s l = Passes s × AllKept (sequenceRules (executionOf s) l)
 
 module _ (s l : List ℕ) (r : Right s) (f : Formed (readOff (executionOf s) l)) where
   abbrev z : Execution
@@ -119,11 +96,12 @@ unfolding examination Judged
 right-passes s r k = rw (right-whole s r) (judged-then (structureRules (executionOf s)) [] 0 [] k (refl, refl))
 
 -- the structure rules look at sections 2 to 4 alone, which are as they were
-pub round-trip : RoundTrip
+pub round-trip : (s l : List ℕ) → Sequence s l
+    → Passes (bytesOf s l) × Agree (executionOf (bytesOf s l)) (readOff (executionOf s) l) × (length (bytesOf s l) ≤ 2346)
 unfolding Joining Causes Unordered Eventless Repeated
 round-trip s l (p, k) =
     let q = passed s p in
-    let form = off-formed _ l (q .form) (q .structure) k in
+    let form = off-formed _ l (q .form) (q .structure) (once-kept _ l k) in
     let right = off-right s l (q .right) form in
     let agrees = off-agrees s l (q .right) form in
     (right-passes _ right (structure-agree _ _ (agree-sym _ _ agrees) form (q .structure)), agrees, length-low _ right)

@@ -16,13 +16,14 @@ use Rattle.rows.specs.declared.Set.{Set}
 use Rattle.rows.proofs.Members.{dec-in}
 use Rattle.record.specs.Execution.{Execution}
 use Rattle.facts.specs.Facts.{Sorted}
-use Rattle.replay.specs.Sequence.{steps}
+use Rattle.sequences.specs.Sequence.{steps}
 use Rattle.replay.specs.Known.{Narrowed}
-use Rattle.replay.specs.ReadOff.{isStore, picked, event, viewOf}
-use Rattle.replay.proofs.Tests.{sees-decides}
-use Rattle.readoff.specs.Bytes.{twoBytes, counted, views}
+use Rattle.sequences.specs.ReadOff.{isStore, picked, event, viewOf}
+use Rattle.sequences.proofs.Tests.{sees-decides}
+use Rattle.form.specs.Bytes.{twoBytes, counted}
+use Rattle.readoff.specs.Bytes.{views}
 use Rattle.lent.specs.Put.{Put, PutTo}
-use Rattle.readoff.proofs.Bounds.{picked-short}
+use Rattle.sequences.proofs.Bounds.{picked-short}
 use Rattle.readoff.proofs.Pickings.{Picks}
 use Rattle.lent.proofs.Puts.{put-nothing, put-then, put-length}
 

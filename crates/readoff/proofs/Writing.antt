@@ -32,19 +32,19 @@ use Rattle.facts.specs.declared.Classes.{Classes}
 use Rattle.structure.specs.Examined.{examination}
 use Rattle.structure.specs.Structure.{Repeated, structureRules}
 use Rattle.structure.proofs.Passing.{structure-numbered}
-use Rattle.replay.specs.Sequence.{steps, sequenceRules}
+use Rattle.sequences.specs.Sequence.{steps, sequenceRules}
 use Rattle.replay.specs.Known.{Narrowed}
-use Rattle.replay.specs.ReadOff.{isStore, picked, event, storesOf, locksFrom, sourcesFrom, readOff}
-use Rattle.replay.proofs.Tests.{store-decides}
-use Rattle.readoff.specs.Bytes.{twoBytes, counted, pairs, views, bytesOf}
+use Rattle.sequences.specs.ReadOff.{isStore, picked, event, storesOf, locksFrom, sourcesFrom, readOff}
+use Rattle.sequences.proofs.Tests.{store-decides}
+use Rattle.form.specs.Bytes.{twoBytes, counted}
+use Rattle.readoff.specs.Bytes.{pairs, views, bytesOf}
 use Rattle.lent.specs.Put.{Put, PutTo}
 use Rattle.readoff.specs.Written.{WrittenOff, ReadOff}
 use Rattle.readoff.proofs.Blocks.{pairs-length}
-use Rattle.readoff.proofs.Bounds.{once-kept, sequence-length}
+use Rattle.sequences.proofs.Bounds.{once-kept, sequence-length, off-formed}
 use Rattle.readoff.proofs.Pickings.{Picks}
 use Rattle.readoff.proofs.Prefixes.{prefix-length}
 use Rattle.lent.proofs.Puts.{put-then, put-length, put-written}
-use Rattle.readoff.proofs.RoundTrips.{off-formed}
 
 -- sections 0 to 5 at their limits
 front-low : (s : List ℕ) → Right s → start s 6 ≤ 1866
@@ -82,7 +82,7 @@ module _ {s : List ℕ} {y : Layout} {f q k : List ℕ} {c : Classes} {b o l : L
   right = h .facts .ready .right
 
   form : Formed (readOff z l)
-  form = off-formed z l (formed s right) (h .structure) (h .kept)
+  form = off-formed z l (formed s right) (h .structure) (once-kept z l (h .kept))
 
   long : y .events ≡ length l
   long = laid .events ∙ sym (sequence-length z l (once-kept z l (h .kept)))

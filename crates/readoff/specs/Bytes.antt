@@ -1,19 +1,12 @@
 -- The record that is read off from a sequence, byte by byte.
-use Prim.Native.Nat.{ℕ, zero, suc, _/_, _%_}
+use Prim.Native.Nat.{ℕ, zero, suc}
 use mathlib.Core.List.{List, [], _∷_, _++_}
 use lib.ListN.{length, take}
+use Rattle.form.specs.Bytes.{twoBytes, counted}
 use Rattle.form.specs.Place.{start}
 use Rattle.record.specs.Execution.{Pair, Execution}
 use Rattle.record.specs.Says.{executionOf}
-use Rattle.replay.specs.ReadOff.{storesOf, locksFrom, sourcesFrom, viewOf}
-
--- a count: two bytes, the lower first
-abbrev pub twoBytes : ℕ → List ℕ
-twoBytes n = n % 256 ∷ n / 256 ∷ []
-
--- a count, then so many one-byte numbers
-abbrev pub counted : List ℕ → List ℕ
-counted l = twoBytes (length l) ++ l
+use Rattle.sequences.specs.ReadOff.{storesOf, locksFrom, sourcesFrom, viewOf}
 
 -- each pair in two bytes
 unfoldable pub pairs : List Pair → List ℕ

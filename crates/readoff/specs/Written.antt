@@ -7,7 +7,7 @@ use lib.ListN.{length}
 use Rattle.order.specs.Evidence.{Written}
 use Rattle.structure.specs.Examined.{examination}
 use Rattle.record.specs.Says.{executionOf}
-use Rattle.replay.specs.Sequence.{sequenceRules}
+use Rattle.sequences.specs.Sequence.{sequenceRules}
 use Rattle.readoff.specs.Bytes.{bytesOf}
 
 -- on 0 the record that is read off and its length, and not one byte more; on a refusal no byte

@@ -1,7 +1,7 @@
 // Bytes written into a lent buffer.
 ghost use Prim.Native.Nat.{_+_, _≤_, _<_};
 ghost use lib.ListN.{length, take};
-ghost use Rattle.readoff.specs.Bytes.{twoBytes};
+ghost use Rattle.form.specs.Bytes.{twoBytes};
 ghost use Rattle.lent.specs.Put.{Put};
 
 // Writes a count in two bytes.

@@ -9,7 +9,7 @@ ghost use Rattle.record.specs.Says.{executionOf};
 ghost use Rattle.record.specs.Laid.{Laid};
 ghost use Rattle.facts.specs.Facts.{Gathered};
 ghost use Rattle.structure.specs.Structure.{structureRules};
-ghost use Rattle.replay.specs.Sequence.{sequenceRules};
+ghost use Rattle.sequences.specs.Sequence.{sequenceRules};
 ghost use Rattle.replay.specs.Known.{Narrowed};
 ghost use Rattle.readoff.specs.Bytes.{bytesOf};
 ghost use Rattle.readoff.specs.Written.{WrittenOff, ReadOff};

@@ -47,20 +47,6 @@ module _ (s : List ℕ) (r : Right s) (k : ℕ) (a : 2 ≤ k) (b : k < 9) (p : P
   pub first-of : (n : ℕ) → num n s (p .at + w * i) ≡ num n s (entryAt s k i)
   first-of n = ap (num n s) (entry-place s r k a b p q w e i)
 
--- entries of one byte
-module _ (s : List ℕ) (r : Right s) (k : ℕ) (a : 2 ≤ k) (b : k < 9) (p : Part) (q : Stands s k p) (e : 1 ≡ width k) (i : ℕ) (h : i < p .count) where
-  one-place : p .at + 1 * i ≡ p .at + i
-  one-place = ap (λ (x : ℕ). p .at + x) (one-mul i)
-
-  pub byte-fits : p .at + i + 1 ≤ length s
-  byte-fits = let f = entry-within s r k a b p q 1 e i h in let z = one-place in omega arith
-
-  pub byte-small : p .at + i ≤ 2346
-  byte-small = let f = byte-fits in let g = length-low s r in omega arith
-
-  pub byte-of : num 1 s (p .at + i) ≡ num 1 s (entryAt s k i)
-  byte-of = ap (num 1 s) (sym one-place ∙ entry-place s r k a b p q 1 e i)
-
 -- an entry of section 5 is of the event's class and owner
 abbrev pub Owned : Event → Initial → Type 0
 Owned x i = (Memory x × (i .class ≡ 0)) ⊎ (Register x × ((i .class ≡ 1) × (x .processor ≡ i .processor)))
@@ -89,13 +75,6 @@ module _ (s : List ℕ) (r : Right s) (p : ℕ) (h : p < num 1 s 1) where
 
   pub view-count-small : viewStart s p + 2 ≤ 2346
   view-count-small = let f = view-count-fits in let g = length-low s r in omega arith
-
-  module _ (v : Part) (q : Views s p v) (i : ℕ) (l : i < v .count) where
-    pub item-fits : v .at + i + 1 ≤ length s
-    item-fits = let f = view-end in let a = q .place in let b = q .number in omega arith
-
-    pub item-small : v .at + i ≤ 2346
-    item-small = let f = item-fits in let g = length-low s r in omega arith
 
 pub item-is : (s : List ℕ) (p : ℕ) (v : Part) (i : ℕ) → Views s p v → num 1 s (v .at + i) ≡ executionOf s .view p .item i
 item-is s p v i q = ap (λ (x : ℕ). num 1 s (x + i)) (q .place)

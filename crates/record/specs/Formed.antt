@@ -1,4 +1,4 @@
--- What the form rules guarantee of an execution: the crates above cite this alone.
+-- What the form rules guarantee of an execution.
 use Prim.Native.Nat.{ℕ, _%_, _<_, _≤_}
 use mathlib.Core.Path.{_≡_}
 use mathlib.Core.Logic.{_⊎_}

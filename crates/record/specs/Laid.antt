@@ -27,6 +27,3 @@ pub record Laid (s : List ℕ) (l : Layout) : Type 0 where
 pub record Views (s : List ℕ) (p : ℕ) (v : Part) : Type 0 where
   pub place : v .at ≡ viewStart s p + 2
   pub number : v .count ≡ num 2 s (viewStart s p)
-
-abbrev pub SomeView : List ℕ → Part → Type 0
-SomeView s v = (p : ℕ) × (p < num 1 s 1) × Views s p v

@@ -1,5 +1,5 @@
 // What a record says: its fields, read in place, and the view question.
-// Promises: every function speaks of `executionOf`, the execution that the bytes spell. The crates above see no byte.
+// Promises: a field that is read is one of `executionOf`, the execution that the bytes spell; where the sections stand (`Laid`).
 
 pub mod events;
 pub mod lists;

@@ -1,35 +1,17 @@
-// The items of sections 5 to 9, read in place.
+// The items of sections 5 and 8, and where a view stands, read in place.
 ghost use mathlib.Core.Path.{_≡_};
-ghost use Prim.Native.Nat.{ℕ, _<_};
+ghost use Prim.Native.Nat.{_<_};
 ghost use Rattle.order.specs.Least.{Hit};
 ghost use Rattle.form.specs.Place.{viewStart};
 ghost use Rattle.form.specs.Right.{Right};
 ghost use Rattle.record.specs.Says.{executionOf};
-ghost use Rattle.record.specs.Laid.{Stands, Views, SomeView};
+ghost use Rattle.record.specs.Laid.{Stands, Views};
 ghost use Rattle.record.specs.Words.{InitialFor};
 use crate::Event;
 use crate::Part;
 use form::bytes::num1;
 use form::bytes::num2;
 use form::bytes::num4;
-
-// Item i of the store order.
-pub fn store_of(s: &[u8], stores: Part, i: usize) -> usize
-    requires { ⌜ Right (now s) × Stands (now s) 6 stores × (i < stores .count) ⌝ }
-    ensures { λ r. ⌜ r ≡ executionOf (now (s .entry)) .stores .item i ⌝ }
-{
-    let from = stores.at;
-    num1(s, from + i)
-}
-
-// Item i of the locked order.
-pub fn lock_of(s: &[u8], lockorder: Part, i: usize) -> usize
-    requires { ⌜ Right (now s) × Stands (now s) 7 lockorder × (i < lockorder .count) ⌝ }
-    ensures { λ r. ⌜ r ≡ executionOf (now (s .entry)) .lockOrder .item i ⌝ }
-{
-    let from = lockorder.at;
-    num1(s, from + i)
-}
 
 // The writing event of reads-from pair i.
 pub fn source_of(s: &[u8], sources: Part, i: usize) -> usize
@@ -90,13 +72,4 @@ pub fn view_of(s: &[u8], p: usize, at: usize) -> Part
         at: at + 2,
         count: num2(s, at),
     }
-}
-
-// Item i of a view.
-pub fn item_of(s: &[u8], view: Part, i: usize) -> usize
-    requires { ⌜ Right (now s) × SomeView (now s) view × (i < view .count) ⌝ }
-    ensures { λ r. ⌜ ((p : ℕ) → Views (now (s .entry)) p view → r ≡ executionOf (now (s .entry)) .view p .item i) ⌝ }
-{
-    let from = view.at;
-    num1(s, from + i)
 }

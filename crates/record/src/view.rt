@@ -1,6 +1,7 @@
 // The view question: the part of the record that is a processor's view.
 ghost use mathlib.Core.Path.{_≡_};
 ghost use Prim.Native.Nat.{_<_};
+ghost use Rattle.lent.specs.Part.{PartAt};
 ghost use Rattle.form.specs.Bytes.{num};
 ghost use Rattle.form.specs.Place.{start, viewStart};
 ghost use Rattle.form.specs.Right.{Right};
@@ -77,10 +78,11 @@ pub fn find(s: &[u8], p: u16) -> Found
     }
 }
 
-// The answer, and the events of processor `p`'s view as a part of the record; on a refusal an empty part.
+// The answer, and the events of processor `p`'s view as a part of the lent record itself; on a refusal an empty part.
 pub fn view<'a>(s: &'a [u8], p: u16, answer: &mut u16) -> &'a [u8]
     ensures answer { λ r. ⌜ now (answer .exit) ≡ viewAnswer (now (s .entry)) p ⌝ }
     ensures part { λ r. ⌜ now r ≡ viewPart (now (s .entry)) p ⌝ }
+    ensures place { λ r. ⌜ PartAt (s .entry) (partFrom (now (s .entry)) p) r ⌝ }
 {
     let f = find(s, p);
     *answer = f.answer;

@@ -17,9 +17,9 @@ use reader::Item;
 pub extern "C" fn reefmitten_check(s: &[u8], evidence: &mut [u16], written: &mut usize) -> u16
     ensures { λ r. ⌜ Checked (now (s .entry)) (now (evidence .entry)) (now (evidence .exit)) r (now (written .exit)) ⌝ }
 {
-    let v = judge::check::check(s, evidence);
-    *written = v.count;
-    v.answer
+    let checked = judge::check::check(s, evidence);
+    *written = checked.count;
+    checked.answer
 }
 
 // The replay of a list.
@@ -32,9 +32,9 @@ pub extern "C" fn reefmitten_replay(
 ) -> u16
     ensures { λ r. ⌜ Replayed (now (s .entry)) (now (list .entry)) (now (evidence .entry)) (now (evidence .exit)) r (now (written .exit)) ⌝ }
 {
-    let v = replay::replay::replay(s, list, evidence);
-    *written = v.count;
-    v.answer
+    let replayed = replay::replay::replay(s, list, evidence);
+    *written = replayed.count;
+    replayed.answer
 }
 
 // The read-off of a list.
@@ -47,9 +47,9 @@ pub extern "C" fn reefmitten_read_off(
 ) -> u16
     ensures { λ r. ⌜ ReadOff (now (s .entry)) (now (list .entry)) (now (out .entry)) (now (out .exit)) r (now (written .exit)) ⌝ }
 {
-    let v = readoff::read_off::read_off(s, list, out);
-    *written = v.count;
-    v.answer
+    let written_off = readoff::read_off::read_off(s, list, out);
+    *written = written_off.count;
+    written_off.answer
 }
 
 // The order table.

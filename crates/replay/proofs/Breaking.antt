@@ -17,7 +17,7 @@ use Rattle.record.specs.Words.{SameInstruction}
 use Rattle.model.specs.Model.{Locked, Before}
 use Rattle.axioms.specs.Scene.{Lined}
 use Rattle.axioms.proofs.Tears.{broken-locked, broken-in, broken-is}
-use Rattle.replay.specs.Sequence.{steps, BrokenUp}
+use Rattle.sequences.specs.Sequence.{steps, BrokenUp}
 
 module _ (z : Execution) (l t : List ℕ) (all : Set) (v : Lined z (steps l) t all) (a : ℕ) (h : Hit 64 (λ k. Any 2 (BrokenUp z l k)) a) where
   low : (a x b : ℕ) → BrokenUp z l a x b → (a < 64) × (x < 64) × (b < 64)

@@ -20,7 +20,7 @@ use Rattle.record.specs.Formed.{Formed}
 use Rattle.structure.specs.Held.{Held}
 use Rattle.model.specs.Model.{Preserved}
 use Rattle.model.proofs.Decisions.{certain}
-use Rattle.replay.specs.Sequence.{steps, Reversed, Differs}
+use Rattle.sequences.specs.Sequence.{steps, Reversed, Differs}
 use Rattle.replay.specs.Known.{Sequenced, Programmed}
 use Rattle.replay.proofs.Values.{step-is}
 

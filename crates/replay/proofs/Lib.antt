@@ -1,17 +1,8 @@
-pub mod Along
 pub mod Breaking
-pub mod Demand3
 pub mod Judging
-pub mod Locking
-pub mod Members
 pub mod Narrowings
-pub mod Pasts
-pub mod Picking
 pub mod Promises
-pub mod Reading
 pub mod Reversing
 pub mod Sequencing
-pub mod Sourcing
 pub mod Stating
-pub mod Tests
 pub mod Values

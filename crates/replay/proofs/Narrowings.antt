@@ -25,10 +25,11 @@ use Rattle.model.specs.Agree.{Alike}
 use Rattle.model.specs.Model.{Before}
 use Rattle.model.specs.Rules.{Stands, Misplaced}
 use Rattle.model.proofs.Agreeing.{alike-sym, before-alike, misplaced-alike}
-use Rattle.model.proofs.Lists.{Proper, proper, before-ends, before-or, before-trans}
+use Rattle.model.proofs.Lists.{Proper, before-ends, before-or, before-trans}
 use Rattle.axioms.specs.Scene.{Lined}
-use Rattle.replay.specs.Sequence.{steps, WrongEvent}
+use Rattle.sequences.specs.Sequence.{steps, WrongEvent}
 use Rattle.replay.specs.Known.{Narrowed}
+use Rattle.sequences.proofs.Members.{each-once}
 
 -- the number at i is not below n
 abbrev pub Large : ℕ → List ℕ → ℕ → Type 0
@@ -134,9 +135,8 @@ module _ (z : Execution) (small : z .events .size ≤ 64) (l b : List ℕ) (s : 
       pub event-kept : Kept (rule 30 1 (WrongEvent z l))
       event-kept = one-kept 30 64 (WrongEvent z l) r (wrong-hit r h) g wrong-low
 
-      each-once : Proper (steps l) (λ e. e < z .events .size)
-      unfolding WrongEvent
-      each-once = proper _ _ (λ e. decLt _ _) (λ e q. event-kept (e ∷ []) q)
+      once : Proper (steps l) (λ e. e < z .events .size)
+      once = each-once z l event-kept
 
       -- the table has the order of a list with each event once
       pub table-lined : (u : List ℕ) → HasRows u 64 × ((x y : ℕ) → rel u x y ↔ Before (steps l) x y) → Lined z (steps l) u all
@@ -144,8 +144,8 @@ module _ (z : Execution) (small : z .events .size ≤ 64) (l b : List ℕ) (s : 
         low = due;
         rows = rows;
         order = λ x y hx hy. order x y;
-        within = λ x y q. let (e, f) = before-ends (steps l) x y q in (member x (each-once .due x e), member y (each-once .due y f));
-        once = each-once .single;
-        opposite = λ x y p q. each-once .single x (before-trans (steps l) (each-once .single) x y x p q);
-        total = λ x y hx hy. before-or (steps l) x y (each-once .stands x (due x hx)) (each-once .stands y (due y hy));
+        within = λ x y q. let (e, f) = before-ends (steps l) x y q in (member x (once .due x e), member y (once .due y f));
+        once = once .single;
+        opposite = λ x y p q. once .single x (before-trans (steps l) (once .single) x y x p q);
+        total = λ x y hx hy. before-or (steps l) x y (once .stands x (due x hx)) (once .stands y (due y hy));
       }

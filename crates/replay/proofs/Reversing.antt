@@ -15,10 +15,10 @@ use Rattle.record.specs.Formed.{Formed}
 use Rattle.structure.specs.Structure.{structureRules}
 use Rattle.model.specs.Model.{Before}
 use Rattle.model.proofs.Lists.{Proper, before-or, before-trans}
-use Rattle.replay.specs.Sequence.{steps, Reversed}
+use Rattle.sequences.specs.Sequence.{steps, Reversed}
 use Rattle.replay.specs.Known.{Sequenced, Programmed}
-use Rattle.replay.proofs.Along.{Apart, given-apart}
-use Rattle.replay.proofs.Demand3.{full}
+use Rattle.sequences.proofs.Along.{Apart, given-apart}
+use Rattle.sequences.proofs.Agreement.{full}
 
 module _ (z : Execution) (l b t u : List ℕ) (f : Formed z) (s : AllKept (structureRules z)) (p : Programmed z t) (q : Sequenced z l b u) where
   once : Proper (steps l) (λ e. e < z .events .size)

@@ -14,7 +14,7 @@ use Rattle.order.proofs.Searches.{hit-as, one-shown, one-kept}
 use Rattle.rows.specs.Table.{HasRows, rel}
 use Rattle.record.specs.Execution.{Execution}
 use Rattle.model.specs.Model.{Before}
-use Rattle.replay.specs.Sequence.{steps, TooLarge, sequenceRules}
+use Rattle.sequences.specs.Sequence.{steps, TooLarge, sequenceRules}
 use Rattle.replay.specs.Known.{Narrowed, Sequenced}
 use Rattle.replay.proofs.Narrowings.{Large}
 

@@ -22,11 +22,11 @@ use Rattle.facts.proofs.Placing.{place-refl, place-sym, place-trans}
 use Rattle.model.specs.Model.{Reads, Writes}
 use Rattle.model.specs.Rules.{WritesPlace}
 use Rattle.axioms.proofs.Sorts.{writes-is, reads-is}
-use Rattle.replay.specs.Sequence.{steps, LastWrite}
+use Rattle.sequences.specs.Sequence.{steps, LastWrite}
 use Rattle.replay.specs.Known.{StateAt, SourceBefore}
-use Rattle.replay.specs.ReadOff.{event}
+use Rattle.sequences.specs.ReadOff.{event}
 use Rattle.replay.specs.declared.State.{State}
-use Rattle.replay.proofs.Sourcing.{latest}
+use Rattle.sequences.proofs.Sourcing.{latest}
 
 -- of an event a set of such events tells whether it has the property
 set-decides : (n : ℕ) (P : ℕ → Type 0) (s : Set) → Is s (λ k. (k < n) × P k) → (e : ℕ) → e < n → (t : Bool) → Decides t (In s e) → Decides t (P e)

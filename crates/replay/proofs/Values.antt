@@ -19,11 +19,11 @@ use Rattle.model.specs.Model.{Reads}
 use Rattle.model.specs.Rules.{Initially}
 use Rattle.axioms.specs.Faults.{Coded}
 use Rattle.axioms.proofs.Initials.{initially-unique}
-use Rattle.replay.specs.Sequence.{steps, Holds, Differs}
+use Rattle.sequences.specs.Sequence.{steps, Holds, Differs}
 use Rattle.replay.specs.Known.{Narrowed, StateAt, SourceBefore}
-use Rattle.replay.specs.ReadOff.{event}
+use Rattle.sequences.specs.ReadOff.{event}
 use Rattle.replay.specs.declared.State.{State}
-use Rattle.replay.proofs.Sourcing.{last-unique}
+use Rattle.sequences.proofs.Sourcing.{last-unique}
 
 module _ (z : Execution) (l : List ℕ) (i r : ℕ) where
   -- r's value is that of its place

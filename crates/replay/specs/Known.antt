@@ -12,7 +12,7 @@ use Rattle.record.specs.Execution.{Execution}
 use Rattle.record.specs.Words.{Causes}
 use Rattle.model.specs.Model.{Preserved, Before}
 use Rattle.model.specs.Rules.{WritesPlace}
-use Rattle.replay.specs.Sequence.{steps, LastWrite, sequenceRules}
+use Rattle.sequences.specs.Sequence.{steps, LastWrite, sequenceRules}
 use Rattle.replay.specs.declared.State.{State}
 
 -- the numbers of the list, all below n, are the first bytes of b

@@ -10,7 +10,7 @@ ghost use Rattle.record.specs.Laid.{Laid};
 ghost use Rattle.facts.specs.Facts.{Sorted, Ready, Gathered};
 ghost use Rattle.structure.specs.Held.{Held};
 ghost use Rattle.structure.specs.Structure.{structureRules};
-ghost use Rattle.replay.specs.Sequence.{stepRules, replayRules};
+ghost use Rattle.sequences.specs.Sequence.{stepRules, replayRules};
 ghost use Rattle.replay.specs.Known.{Sequenced};
 ghost use Rattle.replay.specs.Replayed.{Replayed};
 use crate::sequence::sequence;

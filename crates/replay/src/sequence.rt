@@ -15,7 +15,7 @@ ghost use Rattle.record.specs.Laid.{Laid};
 ghost use Rattle.facts.specs.Facts.{Blank, Entered, Mated, Classed};
 ghost use Rattle.model.specs.Model.{Before};
 ghost use Rattle.axioms.specs.Scene.{Lined};
-ghost use Rattle.replay.specs.Sequence.{steps, sequenceRules};
+ghost use Rattle.sequences.specs.Sequence.{steps, sequenceRules};
 ghost use Rattle.replay.specs.Known.{Narrowed, Sequenced};
 use axioms::locked::tearing;
 use axioms::locked::torn;

@@ -15,7 +15,7 @@ ghost use Rattle.record.specs.Says.{executionOf};
 ghost use Rattle.record.specs.Laid.{Stands};
 ghost use Rattle.facts.specs.Facts.{Placed, Classed};
 ghost use Rattle.structure.specs.Structure.{structureRules};
-ghost use Rattle.replay.specs.Sequence.{Holds, Reversed, Differs};
+ghost use Rattle.sequences.specs.Sequence.{Holds, Reversed, Differs};
 ghost use Rattle.replay.specs.Known.{Narrowed, Sequenced, Programmed, StateAt};
 use crate::State;
 use axioms::initial::initial_code;

@@ -4,31 +4,9 @@
 // witness and the byte behind them; the check's answer and evidence for what was read off, if it was; the read-off with one byte too
 // few, and its first byte.
 use libc::STDIN_FILENO;
-use libc::STDOUT_FILENO;
-
-fn wide(x: u16) -> u64 {
-    x as u64
-}
 
 fn wide_byte(x: u8) -> u64 {
     x as u64
-}
-
-fn print_number(x: u64) {
-    io::write_all(STDOUT_FILENO, b" ");
-    io::print_decimal(STDOUT_FILENO, x);
-}
-
-// Prints the first k numbers.
-fn print_list(l: &[u16], k: usize) {
-    let mut i = 0;
-    while i < l.len() {
-        if i == k {
-            return;
-        }
-        print_number(wide(l[i]));
-        i += 1;
-    }
 }
 
 // Prints the bytes from `from` up to and with the one at `to`.
@@ -39,7 +17,7 @@ fn print_bytes(s: &[u8], from: usize, to: usize) {
             return;
         }
         if from <= i {
-            print_number(wide_byte(s[i]));
+            printing::number(wide_byte(s[i]));
         }
         i += 1;
     }
@@ -48,33 +26,22 @@ fn print_bytes(s: &[u8], from: usize, to: usize) {
 fn print_replay(s: &[u8], list: &[u16]) {
     let mut ev = [9u16; 65];
     let v = replay::replay::replay(s, list, &mut ev);
-    let k = v.count;
-    io::write_all(STDOUT_FILENO, b"replay");
-    print_number(wide(v.answer));
-    print_number(k as u64);
-    print_list(&ev, k);
-    io::write_all(STDOUT_FILENO, b"\n");
+    printing::text(b"replay");
+    printing::verdict(v.answer, v.count, &ev, v.count);
 }
 
 fn print_short(s: &[u8], list: &[u16]) {
     let mut ev = [9u16; 64];
     let v = replay::replay::replay(s, list, &mut ev);
-    io::write_all(STDOUT_FILENO, b"short");
-    print_number(wide(v.answer));
-    print_number(v.count as u64);
-    print_list(&ev, 1);
-    io::write_all(STDOUT_FILENO, b"\n");
+    printing::text(b"short");
+    printing::verdict(v.answer, v.count, &ev, 1);
 }
 
 fn print_check(s: &[u8]) {
     let mut ev = [9u16; 65];
     let v = judge::check::check(s, &mut ev);
-    let k = v.count;
-    io::write_all(STDOUT_FILENO, b"check");
-    print_number(wide(v.answer));
-    print_number(k as u64);
-    print_list(&ev, k);
-    io::write_all(STDOUT_FILENO, b"\n");
+    printing::text(b"check");
+    printing::verdict(v.answer, v.count, &ev, v.count);
 }
 
 // Judges the first k bytes.
@@ -88,35 +55,35 @@ fn print_read_off(s: &[u8], list: &[u16]) {
     let mut out = [7u8; 2347];
     let v = readoff::read_off::read_off(s, list, &mut out);
     let k = v.count;
-    io::write_all(STDOUT_FILENO, b"off");
-    print_number(wide(v.answer));
-    print_number(k as u64);
+    printing::text(b"off");
+    printing::short(v.answer);
+    printing::number(k as u64);
     if v.answer == 0 {
         print_bytes(&out, form::place::start(s, 6), k);
-        io::write_all(STDOUT_FILENO, b"\n");
+        printing::text(b"\n");
         check_part(&out, k);
     } else {
         print_bytes(&out, 0, 0);
-        io::write_all(STDOUT_FILENO, b"\n");
+        printing::text(b"\n");
     }
 }
 
 fn print_tight(s: &[u8], list: &[u16]) {
     let mut out = [7u8; 2345];
     let v = readoff::read_off::read_off(s, list, &mut out);
-    io::write_all(STDOUT_FILENO, b"tight");
-    print_number(wide(v.answer));
-    print_number(v.count as u64);
+    printing::text(b"tight");
+    printing::short(v.answer);
+    printing::number(v.count as u64);
     print_bytes(&out, 0, 0);
-    io::write_all(STDOUT_FILENO, b"\n");
+    printing::text(b"\n");
 }
 
 fn print_case(s: &[u8], list: &[u16]) {
-    io::write_all(STDOUT_FILENO, b"record");
-    print_number(s.len() as u64);
-    io::write_all(STDOUT_FILENO, b" list");
-    print_list(list, list.len());
-    io::write_all(STDOUT_FILENO, b"\n");
+    printing::text(b"record");
+    printing::number(s.len() as u64);
+    printing::text(b" list");
+    printing::list(list, list.len());
+    printing::text(b"\n");
 }
 
 fn print_all(s: &[u8], list: &[u16]) {

@@ -16,7 +16,7 @@ use Rattle.order.proofs.Searches.{found-less}
 use Rattle.order.proofs.Tests.{by-as}
 use Rattle.order.specs.Least.{Hit, Counted}
 use Rattle.order.proofs.Numbers.{counted-as}
-use Rattle.rows.specs.Members.{bit, In, Is, Member, Meet, Greatest, value}
+use Rattle.rows.specs.Members.{bit, In, Is, Member, Meet, Greatest}
 use Rattle.rows.specs.declared.Set.{Set}
 use Rattle.rows.proofs.Bits.{On, bit-lt, bit-mod, bit-of-zero, dec-on, ext, bit-and, bit-xor, differ-zero, test-bit, bit-pow-same, trailing-first, ones-counted, on-pos, some-on, out-same, out-other, on-or, or-on, on-and, and-on, pow-on, on-full, on-lt, leading-last, mirror}
 
@@ -52,6 +52,10 @@ is-unique x y P hx hy p q = ap word (ext 64 (x .word) (y .word) hx hy (λ k l. g
     go k l (yes i) (no g) = absurd (g (q .has k (p .says k (l, i)) .1))
     go k l (no g) (yes j) = absurd (g (p .has k (q .says k (l, j)) .1))
     go k l (no g) (no h) = omega (arith, bit-lt (x .word) k, bit-lt (y .word) k)
+
+-- a number that falls when members are taken out
+unfoldable pub value : Set → ℕ
+value s = s .word % 2 ^ 64
 
 -- a set with less in it has a smaller value
 pub subset-less : (x y : Set) → ((k : ℕ) → In y k → In x k) → (m : ℕ) → In x m → (In y m → ⊥) → value y < value x

@@ -26,7 +26,3 @@ Greatest s m = In s m × ((k : ℕ) → In s k → k ≤ m)
 pub record Is (s : Set) (P : ℕ → Type 0) : Type 0 where
   pub says : (k : ℕ) → In s k → P k
   pub has : (k : ℕ) → P k → In s k
-
--- a number that falls when members are taken out
-unfoldable pub value : Set → ℕ
-value s = s .word % 2 ^ 64

@@ -12,7 +12,7 @@ use Rattle.structure.specs.Structure.{Joining, Unordered, Eventless, Repeated}
 use Rattle.model.specs.Model.{Before, Source, HappensBefore, OrderFor}
 use Rattle.model.specs.Rules.{Stands, Misplaced, WrongView, WrongStore, WrongLock, WrongSource, Overwritten, BreaksUp, Torn}
 use Rattle.model.proofs.Lists.{before-ends}
-use Rattle.replay.specs.Sequence.{steps, TooLarge, WrongEvent, BrokenUp, Reversed, Differs}
+use Rattle.sequences.specs.Sequence.{steps, TooLarge, WrongEvent, BrokenUp, Reversed, Differs}
 use Rattle.slots.proofs.Searching.{Low}
 
 -- ---- lists of numbers below n

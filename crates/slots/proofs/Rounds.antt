@@ -14,7 +14,7 @@ use Rattle.order.specs.Relation.{Rel, Trail, Cycle, Below}
 use Rattle.order.specs.Rule.{Round, Rounds}
 use Rattle.order.specs.Shown.{AtLeast, Begun}
 use Rattle.order.proofs.Cycles.{turned, cycle-within}
-use Rattle.order.proofs.Rules.{round-cyclic}
+use Rattle.order.proofs.Rules.{round-cyclic, begun}
 use Rattle.order.proofs.Tests.{by-and, by-le, by-as, by-no}
 use Rattle.slots.proofs.Searching.{Search, stop, more, Fits, fits-as, guard, guard-fits}
 
@@ -34,30 +34,7 @@ unfoldable pub round : (ℕ → ℕ → Bool) → ℕ → Search
 unfolding loop
 round t n = more (suc n) (loop t n)
 
--- every event of the list is a or above, or one is below
-least-or : (a : ℕ) (l : List ℕ) → AtLeast a l ⊎ ((x : ℕ) × List·Memᴰ x l × (x < a))
-least-or a [] = inl tt
-least-or a (y ∷ l) = go (least-or a l) (decLt y a)
-  where
-    go : AtLeast a l ⊎ ((x : ℕ) × List·Memᴰ x l × (x < a)) → Dec (y < a) → AtLeast a (y ∷ l) ⊎ ((x : ℕ) × List·Memᴰ x (y ∷ l) × (x < a))
-    go s (yes h) = inr (y, List·Memᴰ·head refl, h)
-    go (inl s) (no h) = inl (omega arith, s)
-    go (inr (x, m, h)) (no g) = inr (x, List·Memᴰ·tail m, h)
-
 module _ (R : Rel) where
-  -- a cycle can be begun at its least event
-  pub begun : (n a : ℕ) (l : List ℕ) → a < n → Trail R a l a → (m : List ℕ) × Cycle R m × Begun m × (length m ≡ suc (length l))
-  begun zero a l h t = absurd (omega arith)
-  begun (suc n) a l h t = go (begun n) (least-or a l)
-    where
-      go : ((b : ℕ) (o : List ℕ) → b < n → Trail R b o b → (m : List ℕ) × Cycle R m × Begun m × (length m ≡ suc (length o)))
-          → AtLeast a l ⊎ ((x : ℕ) × List·Memᴰ x l × (x < a)) → (m : List ℕ) × Cycle R m × Begun m × (length m ≡ suc (length l))
-      go rest (inl s) = (a ∷ l, t, s, refl)
-      go rest (inr (x, i, g)) =
-          let (o, c, e) = turned R (a ∷ l) x t (List·Memᴰ·tail i) in
-          let (m, d, b, f) = rest x o (omega arith) c in
-          (m, d, b, omega arith)
-
   -- what is left of a cycle from s: k events
   abbrev Rest : ℕ → ℕ → ℕ → List ℕ → Type 0
   Rest s k a w = (k ≡ length w) × Trail R a w s × AtLeast s w
@@ -72,8 +49,7 @@ module _ (R : Rel) where
     within k w q = go (cycle-within R n low (round-cyclic R (k ∷ w) q))
       where
         go : (l : List ℕ) × Cycle R l × (length l ≤ n) → Some (suc n) (λ i. (v : List ℕ) × Round R (i ∷ v))
-        go ([], c, h) = absurd c
-        go (a ∷ l, c, h) = let (m, e, b, f) = begun (suc a) a l (omega arith) c in (length m, omega arith, (m, (refl, e, b)))
+        go (l, c, h) = let (m, e, b, f) = begun R l c in (length m, omega arith, (m, (refl, e, b)))
 
     trail-fits : (s k a : ℕ) → Fits (trail t n s k a) (Rest s k a)
     unfolding trail

@@ -9,7 +9,7 @@ use Rattle.record.specs.Words.{Causes}
 use Rattle.structure.specs.Structure.{Joining, Unordered, Eventless, Repeated, structureRules}
 use Rattle.model.specs.Model.{OrderFor}
 use Rattle.model.specs.Rules.{WrongView, WrongStore, WrongLock, WrongSource, Overwritten, Torn, checkRules}
-use Rattle.replay.specs.Sequence.{steps, TooLarge, WrongEvent, BrokenUp, Reversed, Differs, replayRules}
+use Rattle.sequences.specs.Sequence.{steps, TooLarge, WrongEvent, BrokenUp, Reversed, Differs, replayRules}
 use Rattle.slots.specs.Slots.{Operation, Check, Replay, rulesOf}
 use Rattle.slots.proofs.Tested.{equal, never}
 use Rattle.slots.proofs.Tests.{causes, joining, unordered, eventless, repeated, orderFor, wrongView, wrongStore, wrongLock, wrongSource, overwritten, breaksUp, torn, tooLarge, wrongEvent, reversed, differs}

@@ -9,7 +9,7 @@ use Rattle.record.specs.declared.Event.{Event}
 use Rattle.structure.specs.Structure.{Joining, Unordered, Eventless, Repeated}
 use Rattle.model.specs.Model.{Reads, Writes, Locked, KeepsOrder, Preserved, Before, Source, HappensBefore, Sees, OrderFor}
 use Rattle.model.specs.Rules.{Stands, Misplaced, WrongView, WrongStore, WrongLock, WrongSource, WritesPlace, Overwritten, Unsourced, NoInitial, Initially, BreaksUp, Torn}
-use Rattle.replay.specs.Sequence.{steps, Holds, TooLarge, WrongEvent, Reversed, Differs}
+use Rattle.sequences.specs.Sequence.{steps, Holds, TooLarge, WrongEvent, Reversed, Differs}
 use Rattle.slots.proofs.Tested.{Tested, equal, less, most, both, three, four, five, seven, either, never, same, some, none}
 
 -- ---- events

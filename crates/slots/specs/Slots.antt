@@ -3,19 +3,17 @@ use Prim.Native.Nat.{ℕ, _/_, _%_}
 use mathlib.Core.List.{List, [], _∷_, _++_}
 use lib.ListN.{length}
 use Rattle.order.specs.Rule.{Rule}
+use Rattle.form.specs.Bytes.{twoBytes, counted}
 use Rattle.record.specs.Execution.{Execution}
 use Rattle.record.specs.Says.{executionOf}
 use Rattle.structure.specs.Examined.{examination}
 use Rattle.model.specs.Rules.{checkRules}
-use Rattle.replay.specs.Sequence.{replayRules}
+use Rattle.sequences.specs.Sequence.{replayRules}
 
 -- ---- bytes
 
-abbrev pub two : ℕ → List ℕ
-two n = n % 256 ∷ n / 256 ∷ []
-
 abbrev pub four : ℕ → List ℕ
-four n = two (n % 65536) ++ two (n / 65536)
+four n = twoBytes (n % 65536) ++ twoBytes (n / 65536)
 
 abbrev pub joined : List (List ℕ) → List ℕ
 joined [] = []
@@ -23,22 +21,18 @@ joined (x ∷ l) = x ++ joined l
 
 -- a section: its count, then its entries
 abbrev pub section : List (List ℕ) → List ℕ
-section l = two (length l) ++ joined l
-
--- a section of numbers of one byte
-abbrev pub numbers : List ℕ → List ℕ
-numbers l = two (length l) ++ l
+section l = twoBytes (length l) ++ joined l
 
 -- processor, instruction index, address, value
 abbrev pub store : ℕ → ℕ → ℕ → ℕ → List ℕ
-store p i a v = p ∷ 1 ∷ two i ++ (four a ++ four v)
+store p i a v = p ∷ 1 ∷ twoBytes i ++ (four a ++ four v)
 
 abbrev pub load : ℕ → ℕ → ℕ → ℕ → List ℕ
-load p i a v = p ∷ 0 ∷ two i ++ (four a ++ four v)
+load p i a v = p ∷ 0 ∷ twoBytes i ++ (four a ++ four v)
 
 -- a locked instruction: processor, index
 abbrev pub locked : ℕ → ℕ → List ℕ
-locked p i = p ∷ 0 ∷ two i
+locked p i = p ∷ 0 ∷ twoBytes i
 
 -- an initial value of an address
 abbrev pub initial : ℕ → ℕ → List ℕ
@@ -51,7 +45,7 @@ spelled p events locks initials stores lockOrder sources views =
     ++ (section []
     ++ (section locks
     ++ (section initials
-    ++ (numbers stores ++ (numbers lockOrder ++ (section sources ++ section views))))))
+    ++ (counted stores ++ (counted lockOrder ++ (section sources ++ section views))))))
 
 -- ---- the records
 
@@ -68,10 +62,10 @@ s1With stores sources views =
     views
 
 abbrev pub view₀ : List ℕ
-view₀ = numbers (0 ∷ 1 ∷ 2 ∷ [])
+view₀ = counted (0 ∷ 1 ∷ 2 ∷ [])
 
 abbrev pub view₁ : List ℕ
-view₁ = numbers (2 ∷ 3 ∷ 0 ∷ [])
+view₁ = counted (2 ∷ 3 ∷ 0 ∷ [])
 
 abbrev pub s1 : List ℕ
 s1 = s1With (0 ∷ 2 ∷ []) [] (view₀ ∷ view₁ ∷ [])
@@ -113,7 +107,7 @@ torn =
     (0 ∷ 1 ∷ 2 ∷ [])
     (0 ∷ [])
     []
-    (view₀ ∷ numbers (0 ∷ 2 ∷ 1 ∷ []) ∷ [])
+    (view₀ ∷ counted (0 ∷ 2 ∷ 1 ∷ []) ∷ [])
 
 -- a 1 and seventeen zeros
 abbrev pub zeros : List ℕ
@@ -142,12 +136,12 @@ case s o a e = record { bytes = s; operation = o; answer = a; evidence = e }
 abbrev pub slotCases : List Case
 slotCases =
     case s1 Check 0 []
-    ∷ case (s1With (0 ∷ 2 ∷ []) [] (numbers (0 ∷ 1 ∷ []) ∷ view₁ ∷ [])) Check 20 (0 ∷ 2 ∷ [])
+    ∷ case (s1With (0 ∷ 2 ∷ []) [] (counted (0 ∷ 1 ∷ []) ∷ view₁ ∷ [])) Check 20 (0 ∷ 2 ∷ [])
     ∷ case (s1With (0 ∷ []) [] (view₀ ∷ view₁ ∷ [])) Check 21 (2 ∷ [])
     ∷ case (s1With (0 ∷ 2 ∷ []) ((0 ∷ 3 ∷ []) ∷ []) (view₀ ∷ view₁ ∷ [])) Check 23 (0 ∷ 3 ∷ [])
     ∷ case s2 Check 24 (1 ∷ 0 ∷ 2 ∷ [])
-    ∷ case (s2With (numbers (3 ∷ 0 ∷ 2 ∷ []))) Check 24 (1 ∷ 2 ∷ 3 ∷ [])
-    ∷ case (s2With (numbers (0 ∷ 2 ∷ 3 ∷ []))) Check 26 (1 ∷ 3 ∷ 2 ∷ 0 ∷ [])
+    ∷ case (s2With (counted (3 ∷ 0 ∷ 2 ∷ []))) Check 24 (1 ∷ 2 ∷ 3 ∷ [])
+    ∷ case (s2With (counted (0 ∷ 2 ∷ 3 ∷ []))) Check 26 (1 ∷ 3 ∷ 2 ∷ 0 ∷ [])
     ∷ case overwritten Check 25 (0 ∷ 0 ∷ 2 ∷ 1 ∷ [])
     ∷ case torn Check 27 (1 ∷ 0 ∷ 2 ∷ 1 ∷ [])
     ∷ case s1 (Replay (1 ∷ 3 ∷ 0 ∷ 2 ∷ [])) 0 []

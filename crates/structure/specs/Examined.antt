@@ -1,4 +1,4 @@
--- What every operation begins with: the form rules, then the structure rules.
+-- What the check, the replay and the read-off begin with: the form rules, then the structure rules.
 use Prim.Native.Nat.{ℕ, _<_, _≤_}
 use mathlib.Core.Path.{_≡_}
 use mathlib.Core.List.{List, [], _∷_, _++_}

@@ -1,4 +1,4 @@
-// What every operation begins with: reading, then the structure rules.
+// The judgement by the form rules and the structure rules alone.
 ghost use Prim.Native.Nat.{_≤_};
 ghost use mathlib.Core.List.{[]};
 ghost use lib.ListN.{length};

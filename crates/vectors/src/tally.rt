@@ -1,7 +1,6 @@
 // How often each answer was expected of each operation: at 64 times the operation, plus the answer. Of what has no operation, 0 counts
 // the questions that were answered otherwise than expected, and 1 all.
 ghost use Prim.Native.Nat.{_≤_};
-use libc::STDOUT_FILENO;
 
 fn one_more(sums: &mut [u64; 448], i: usize) {
     if i < 448 {
@@ -21,12 +20,10 @@ pub fn count(sums: &mut [u64; 448], operation: usize, answer: u16, right: bool) 
 }
 
 fn print_line(name: &[u8], answer: u64, often: u64) {
-    io::write_all(STDOUT_FILENO, name);
-    io::write_all(STDOUT_FILENO, b" ");
-    io::print_decimal(STDOUT_FILENO, answer);
-    io::write_all(STDOUT_FILENO, b" ");
-    io::print_decimal(STDOUT_FILENO, often);
-    io::write_all(STDOUT_FILENO, b"\n");
+    printing::text(name);
+    printing::number(answer);
+    printing::number(often);
+    printing::text(b"\n");
 }
 
 // The lines of an operation, whose sums stand from `from` on.
@@ -50,8 +47,8 @@ pub fn print(sums: &[u64; 448]) {
     print_lines(sums, b"order-table", 256);
     print_lines(sums, b"view", 320);
     print_lines(sums, b"reader", 384);
-    io::print_decimal(STDOUT_FILENO, sums[1]);
-    io::write_all(STDOUT_FILENO, b" cases, ");
-    io::print_decimal(STDOUT_FILENO, sums[0]);
-    io::write_all(STDOUT_FILENO, b" differ\n");
+    printing::decimal(sums[1]);
+    printing::text(b" cases,");
+    printing::number(sums[0]);
+    printing::text(b" differ\n");
 }

@@ -12,8 +12,8 @@ abbrev μ-loop : tie.MeasureT-loop
 loop-holds : tie.Need-loop-holds Inv-loop μ-loop
 loop-holds c = search needs
 
-print-number-requires : tie.Need-print-number-requires Inv-loop μ-loop
-print-number-requires c κs = search needs
+number-requires : tie.Need-number-requires Inv-loop μ-loop
+number-requires c κs = search needs
 
 add-i : tie.Need-add-i Inv-loop μ-loop
 add-i c = search needs
@@ -30,4 +30,4 @@ returns c = search needs
 pub print-below-spec : {M : Type 1} → statement M
 print-below-spec =
     tie.close
-    (tie.spec Inv-loop μ-loop loop-holds print-number-requires add-i loop-less loop-again returns)
+    (tie.spec Inv-loop μ-loop loop-holds number-requires add-i loop-less loop-again returns)

@@ -1,7 +1,6 @@
 use mathlib.Core.Logic.{⊎-elim}
 use borrow.Author.Needs.{needs}
-use Rattle.rows.specs.Members.{value}
-use Rattle.rows.proofs.Members.{in-low, first-in, taken-less}
+use Rattle.rows.proofs.Members.{value, in-low, first-in, taken-less}
 use Rattle.rows.proofs.Filters.{Filtering, filter-begin, filter-more, filter-skip, filter-done}
 use Rattle.rows.specs.Table.{rel}
 use Rattle.cycles.specs.Search.{Into}

@@ -3,8 +3,7 @@ use Prim.Native.Nat.{_+_, _*_}
 use native.Mathlib.Omega.{arith}
 use borrow.Author.Needs.{needs}
 use lib.ListN.{set, length-set}
-use Rattle.rows.specs.Members.{value}
-use Rattle.rows.proofs.Members.{in-low, first-in}
+use Rattle.rows.proofs.Members.{value, in-low, first-in}
 use Rattle.cycles.proofs.Digs.{Digging, free, free-most, free-less, fresh-begin, fresh-start, fresh-done, dig-less, dig-leaf, dig-found, dig-on, dig-end, dig-back, no-meet, no-next, next-in, hit-none}
 use Rattle.cycles.proofs.dig.Statement.{statement}
 use Rattle.cycles.proofs.dig.Tie as tie

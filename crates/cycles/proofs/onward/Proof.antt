@@ -1,6 +1,5 @@
 use borrow.Author.Needs.{needs}
-use Rattle.rows.specs.Members.{value}
-use Rattle.rows.proofs.Members.{first-in, taken-less}
+use Rattle.rows.proofs.Members.{value, first-in, taken-less}
 use Rattle.cycles.proofs.Layers.{Going, go-begin, go-more, go-done}
 use Rattle.cycles.proofs.onward.Statement.{statement}
 use Rattle.cycles.proofs.onward.Tie as tie

@@ -1,6 +1,6 @@
 use native.Mathlib.Omega.{arith}
 use borrow.Author.Needs.{needs}
-use Rattle.rows.specs.Members.{value}
+use Rattle.rows.proofs.Members.{value}
 use Rattle.cycles.proofs.Reaches.{Reaching, reach-begin, reach-low, reach-less, reach-more, reach-done}
 use Rattle.cycles.proofs.reach.Statement.{statement}
 use Rattle.cycles.proofs.reach.Tie as tie

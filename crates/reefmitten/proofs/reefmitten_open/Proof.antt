@@ -8,7 +8,7 @@ opened-requires : tie.Need-opened-requires
 opened-requires c κs = search needs
 
 returns : tie.Need-returns
-returns c = (c .opened .ensures .0, ap length (c .opened .ensures .1))
+returns c = (c .opened .ensures .0, ap length (c .opened .ensures .1 .0))
 
 pub reefmitten-open-spec : {M : Type 1} → statement M
 reefmitten-open-spec = tie.close (tie.spec opened-requires returns)

@@ -22,8 +22,8 @@ shared-slice-read-wide-byte c = search needs
 wide-byte-requires : tie.Need-wide-byte-requires Inv-loop μ-loop
 wide-byte-requires c κs = search needs
 
-print-number-requires : tie.Need-print-number-requires Inv-loop μ-loop
-print-number-requires c κs = search needs
+number-requires : tie.Need-number-requires Inv-loop μ-loop
+number-requires c κs = search needs
 
 add-i : tie.Need-add-i Inv-loop μ-loop
 add-i c = search needs
@@ -47,7 +47,7 @@ print-bytes-spec =
     returns
     shared-slice-read-wide-byte
     wide-byte-requires
-    print-number-requires
+    number-requires
     add-i
     loop-less
     loop-again

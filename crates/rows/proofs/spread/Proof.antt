@@ -1,7 +1,7 @@
 use borrow.Author.Needs.{needs}
 use native.Mathlib.Omega.{arith}
-use Rattle.rows.specs.Members.{In, value}
-use Rattle.rows.proofs.Members.{in-low, first-in, taken-less}
+use Rattle.rows.specs.Members.{In}
+use Rattle.rows.proofs.Members.{value, in-low, first-in, taken-less}
 use Rattle.rows.proofs.Spreads.{Spreading, spread-begin, spread-more, spread-done}
 use Rattle.rows.proofs.spread.Statement.{statement}
 use Rattle.rows.proofs.spread.Tie as tie

@@ -1,8 +1,7 @@
 use native.Mathlib.Omega.{arith}
 use borrow.Author.Needs.{needs}
 use Rattle.order.proofs.Tests.{by-or, by-lt}
-use Rattle.rows.specs.Members.{value}
-use Rattle.rows.proofs.Members.{in-low, first-in, taken-less}
+use Rattle.rows.proofs.Members.{value, in-low, first-in, taken-less}
 use Rattle.record.specs.Says.{executionOf}
 use Rattle.axioms.proofs.Initials.{Unread, unread-begin, unread-found, unread-more, unread-done}
 use Rattle.axioms.proofs.initial.uninitial.Statement.{statement}

@@ -2,8 +2,8 @@ use Prim.Native.Nat.{ℕ}
 use native.Mathlib.Omega.{arith}
 use borrow.Author.Needs.{needs}
 use Rattle.order.specs.Rule.{Any}
-use Rattle.rows.specs.Members.{In, value}
-use Rattle.rows.proofs.Members.{in-low, first-in, taken-less}
+use Rattle.rows.specs.Members.{In}
+use Rattle.rows.proofs.Members.{value, in-low, first-in, taken-less}
 use Rattle.record.specs.Execution.{Items, Execution}
 use Rattle.facts.specs.Facts.{Mated}
 use Rattle.model.specs.Model.{Locked}

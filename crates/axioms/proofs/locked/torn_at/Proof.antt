@@ -1,8 +1,7 @@
 use native.Mathlib.Omega.{arith}
 use borrow.Author.Needs.{needs}
 use Rattle.order.proofs.Tests.{by-yes, by-no}
-use Rattle.rows.specs.Members.{value}
-use Rattle.rows.proofs.Members.{in-low, first-in, taken-less}
+use Rattle.rows.proofs.Members.{value, in-low, first-in, taken-less}
 use Rattle.axioms.proofs.Seeking.{Seeking, seek-begin, seek-next}
 use Rattle.axioms.proofs.Tears.{Split, split-tested, split-torn, torn-split}
 use Rattle.axioms.proofs.locked.torn_at.Statement.{statement}

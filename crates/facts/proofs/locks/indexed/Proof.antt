@@ -2,8 +2,7 @@ use mathlib.Core.Path.{_≡_, sym, _∙_}
 use mathlib.Core.Logic.{⊎-elim}
 use native.Mathlib.Omega.{arith}
 use borrow.Author.Needs.{needs}
-use Rattle.rows.specs.Members.{value}
-use Rattle.rows.proofs.Members.{in-low, first-in, taken-less}
+use Rattle.rows.proofs.Members.{value, in-low, first-in, taken-less}
 use Rattle.rows.proofs.Filters.{Filtering, filter-begin, filter-more, filter-skip, filter-done}
 use Rattle.record.specs.Says.{executionOf}
 use Rattle.record.proofs.Lockings.{event-index, index-fits, index-low}

@@ -2,8 +2,7 @@ use borrow.Author.Needs.{needs}
 use mathlib.Core.Path.{_≡_, sym, ap, _∙_}
 use mathlib.Core.Logic.{⊎-elim}
 use native.Mathlib.Omega.{arith}
-use Rattle.rows.specs.Members.{value}
-use Rattle.rows.proofs.Members.{in-low, first-in, taken-less}
+use Rattle.rows.proofs.Members.{value, in-low, first-in, taken-less}
 use Rattle.rows.proofs.Filters.{Filtering, filter-begin, filter-more, filter-skip, filter-done}
 use Rattle.record.specs.Says.{executionOf}
 use Rattle.record.specs.declared.Event.{Event}

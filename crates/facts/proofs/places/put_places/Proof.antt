@@ -1,7 +1,6 @@
 use borrow.Author.Needs.{needs}
 use native.Mathlib.Omega.{arith}
-use Rattle.rows.specs.Members.{value}
-use Rattle.rows.proofs.Members.{first-in}
+use Rattle.rows.proofs.Members.{value, first-in}
 use Rattle.record.specs.Says.{executionOf}
 use Rattle.record.proofs.Formings.{formed}
 use Rattle.facts.proofs.Placing.{Placing, place-begin, place-more, place-less, place-done}

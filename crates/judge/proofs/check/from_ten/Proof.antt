@@ -1,7 +1,12 @@
 use native.Mathlib.Omega.{arith}
 use borrow.Author.Needs.{needs}
 use Rattle.rows.proofs.Table.{zeros-rel}
-use Rattle.judge.proofs.Orderings.{given-long, structure-stop, structure-same, structure-on}
+use Rattle.order.proofs.Judgements.{given-stop, given-same, given-on}
+use Rattle.record.specs.Says.{executionOf}
+use Rattle.structure.specs.Structure.{structureRules}
+use Rattle.structure.proofs.Passing.{structure-numbered}
+use Rattle.model.specs.Rules.{checkRules}
+use Rattle.judge.proofs.Orderings.{given-long}
 use Rattle.judge.proofs.check.from_ten.Statement.{statement}
 use Rattle.judge.proofs.check.from_ten.Tie as tie
 
@@ -38,7 +43,8 @@ same-length c = search needs
 returns : tie.Need-returns
 returns c = let u = c .before .before .before .before .before in
     let a = u .before .before .before .before .before .before .before .before .before .before .before .before .before .before in
-    structure-stop _ (a .args .ev .now) _ _ _ (u .structure .ensures .1) (c .if1 .taken)
+    let z = executionOf (a .args .s .now) in
+    given-stop (structureRules z) (checkRules z) (a .args .ev .now) _ _ _ (c .if1 .taken) (u .structure .ensures .1)
 
 slice-aggregate-from-twenty : tie.Need-slice-aggregate-from-twenty
 slice-aggregate-from-twenty c = search needs
@@ -57,8 +63,10 @@ from-twenty-requires c κs = let d = c .before .before .before .before .before i
     let u = d .before .before .before .before .before in
     let h = u .before .before .before .before .before .before .before .before in
     let a = h .before .before .before .before .before .before in
-    let z = d .if1 .left in
-    (h .gather .ensures, u .structure .ensures .0 z, given-long _ _ (structure-same _ (a .args .ev .now) _ _ _ (u .structure .ensures .1) z) (a .pre .2))
+    let z = executionOf (a .args .s .now) in
+    let e = d .if1 .left in
+    let same = given-same (structureRules z) (checkRules z) (a .args .ev .now) _ (structure-numbered z) _ _ e (u .structure .ensures .1) in
+    (h .gather .ensures, u .structure .ensures .0 e, given-long _ _ same (a .pre .2))
 
 same-length-2 : tie.Need-same-length-2
 same-length-2 c = search needs
@@ -68,7 +76,8 @@ returns-2 c = let r = c .before .before .before in
     let d = r .before .before .before .before .before .before in
     let u = d .before .before .before .before .before in
     let a = u .before .before .before .before .before .before .before .before .before .before .before .before .before .before in
-    structure-on _ (a .args .ev .now) _ _ _ (u .structure .ensures .1) (d .if1 .left) _ _ _ (r .from-twenty .ensures)
+    let z = executionOf (a .args .s .now) in
+    given-on (structureRules z) (checkRules z) (a .args .ev .now) _ (structure-numbered z) _ _ (d .if1 .left) (u .structure .ensures .1) _ _ _ (r .from-twenty .ensures)
 
 pub from-ten-spec : {M : Type 1} → statement M
 from-ten-spec =

@@ -1,5 +1,8 @@
 use borrow.Author.Needs.{needs}
-use Rattle.judge.proofs.Orderings.{given-long, witness-stop, witness-kept, witness-same, witness-on}
+use Rattle.order.proofs.Judgements.{given-stop, given-kept, given-same, given-on}
+use Rattle.model.specs.Rules.{witnessRules, orderRules}
+use Rattle.record.specs.Says.{executionOf}
+use Rattle.judge.proofs.Orderings.{given-long, witness-numbered}
 use Rattle.judge.proofs.check.from_twenty.Statement.{statement}
 use Rattle.judge.proofs.check.from_twenty.Tie as tie
 
@@ -12,14 +15,22 @@ same-length c = search needs
 returns : tie.Need-returns
 returns c = let w = c .before .before .before .before in
     let a = w .before .before .before .before .before .before .before .before in
-    witness-stop _ (a .args .ev .now) _ _ _ (w .witness .ensures) (c .if1 .taken)
+    let z = executionOf (a .args .s .now) in
+    given-stop (witnessRules z) (orderRules z) (a .args .ev .now) _ _ _ (c .if1 .taken) (w .witness .ensures)
 
 ordered-requires : tie.Need-ordered-requires
 ordered-requires c κs = let d = c .before .before in
     let w = d .before .before .before .before in
     let a = w .before .before .before .before .before .before .before .before in
     let p = a .pre in
-    (p .0, p .1, witness-kept _ (a .args .ev .now) _ _ _ (w .witness .ensures) (d .if1 .left), given-long _ _ (witness-same _ (a .args .ev .now) _ _ _ (w .witness .ensures) (d .if1 .left)) (p .2))
+    let z = executionOf (a .args .s .now) in
+    let g = w .witness .ensures in
+    let e = d .if1 .left in (
+      p .0,
+      p .1,
+      given-kept (witnessRules z) (orderRules z) (a .args .ev .now) _ (witness-numbered z) _ _ e g,
+      given-long _ _ (given-same (witnessRules z) (orderRules z) (a .args .ev .now) _ (witness-numbered z) _ _ e g) (p .2),
+    )
 
 same-length-2 : tie.Need-same-length-2
 same-length-2 c = search needs
@@ -32,7 +43,8 @@ returns-2 c = let o = c .before .before .before .before in
     let d = o .before .before .before in
     let w = d .before .before .before .before in
     let a = w .before .before .before .before .before .before .before .before in
-    witness-on _ (a .args .ev .now) _ _ _ (w .witness .ensures) (d .if1 .left) _ _ _ (o .ordered .ensures)
+    let z = executionOf (a .args .s .now) in
+    given-on (witnessRules z) (orderRules z) (a .args .ev .now) _ (witness-numbered z) _ _ (d .if1 .left) (w .witness .ensures) _ _ _ (o .ordered .ensures)
 
 pub from-twenty-spec : {M : Type 1} → statement M
 from-twenty-spec =

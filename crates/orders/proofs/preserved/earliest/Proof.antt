@@ -1,8 +1,7 @@
 use mathlib.Core.Logic.{⊎-elim}
 use native.Mathlib.Omega.{arith}
 use borrow.Author.Needs.{needs}
-use Rattle.rows.specs.Members.{value}
-use Rattle.rows.proofs.Members.{in-low, first-in, taken-less}
+use Rattle.rows.proofs.Members.{value, in-low, first-in, taken-less}
 use Rattle.record.specs.Says.{executionOf}
 use Rattle.orders.proofs.Earliest.{Seeking, seek-begin, seek-lower, seek-equal, seek-skip, seek-done, index-small}
 use Rattle.orders.proofs.preserved.earliest.Statement.{statement}

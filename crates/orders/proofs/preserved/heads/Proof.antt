@@ -2,8 +2,7 @@ use mathlib.Core.Path.{ap}
 use mathlib.Core.Logic.{⊎-elim}
 use native.Mathlib.Omega.{arith}
 use borrow.Author.Needs.{needs}
-use Rattle.rows.specs.Members.{value}
-use Rattle.rows.proofs.Members.{in-low, first-in, taken-less}
+use Rattle.rows.proofs.Members.{value, in-low, first-in, taken-less}
 use Rattle.record.specs.Says.{executionOf}
 use Rattle.record.specs.declared.Event.{Event}
 use Rattle.orders.proofs.Earliest.{index-small}

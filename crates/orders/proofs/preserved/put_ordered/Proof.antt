@@ -2,8 +2,8 @@ use mathlib.Core.Path.{_≡_, refl, _∙_}
 use native.Mathlib.Omega.{arith}
 use borrow.Author.Needs.{needs}
 use lib.ListN.{length}
-use Rattle.rows.specs.Members.{In, value}
-use Rattle.rows.proofs.Members.{first-in, taken-less}
+use Rattle.rows.specs.Members.{In}
+use Rattle.rows.proofs.Members.{value, first-in, taken-less}
 use Rattle.record.specs.Execution.{Execution}
 use Rattle.facts.specs.Facts.{Placed, Classed}
 use Rattle.orders.specs.Programs.{Program, Headed}

@@ -1,9 +1,9 @@
 use mathlib.Core.Logic.{_⊎_}
 use native.Mathlib.Omega.{arith}
 use borrow.Author.Needs.{needs}
-use Rattle.rows.specs.Members.{In, value}
+use Rattle.rows.specs.Members.{In}
 use Rattle.rows.specs.Table.{rel}
-use Rattle.rows.proofs.Members.{in-low, first-in, taken-less}
+use Rattle.rows.proofs.Members.{value, in-low, first-in, taken-less}
 use Rattle.rows.proofs.Spreads.{Spreading, spread-begin, spread-more, spread-done}
 use Rattle.orders.proofs.Instructions.{steps-is}
 use Rattle.orders.proofs.preserved.put_steps.Statement.{statement}

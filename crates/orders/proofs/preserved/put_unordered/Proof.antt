@@ -1,6 +1,6 @@
 use native.Mathlib.Omega.{arith}
 use borrow.Author.Needs.{needs}
-use Rattle.rows.specs.Members.{value}
+use Rattle.rows.proofs.Members.{value}
 use Rattle.record.specs.Says.{executionOf}
 use Rattle.orders.proofs.Programs.{Running, run-begin, run-here, run-less, run-one, run-fewer, run-more, run-done}
 use Rattle.orders.proofs.preserved.put_unordered.Statement.{statement}

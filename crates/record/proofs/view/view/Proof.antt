@@ -1,3 +1,4 @@
+use mathlib.Core.Path.{refl}
 use native.Mathlib.Omega.{arith}
 use native.Mathlib.Nat.{add-sub-cancel-left}
 use denote.Ref.{now}
@@ -28,7 +29,9 @@ part-result-end c = let a = c .before .before .before .args in
 
 returns : tie.Need-returns
 unfolding viewPart
-returns c = (c .before .before .find .ensures .0, rw add-sub-cancel-left (cc))
+returns c = let f = c .before .before .find .ensures in
+    let e = f .1 .0 in
+    (f .0, (rw add-sub-cancel-left (cc), (refl, omega arith)))
 
 pub view-spec : {M : Type 1} → statement M
 view-spec =

@@ -5,7 +5,7 @@ use Rattle.order.proofs.Judgements.{given-stop, given-kept, given-on}
 use Rattle.rows.proofs.Table.{zeros-rel}
 use Rattle.record.specs.Says.{executionOf}
 use Rattle.structure.specs.Structure.{structureRules}
-use Rattle.replay.specs.Sequence.{replayRules}
+use Rattle.sequences.specs.Sequence.{replayRules}
 use Rattle.structure.proofs.Passing.{structure-numbered}
 use Rattle.replay.proofs.replay.from_ten.Statement.{statement}
 use Rattle.replay.proofs.replay.from_ten.Tie as tie

@@ -3,7 +3,7 @@ use borrow.Author.Needs.{needs}
 use Rattle.order.proofs.Judgements.{given-stop, given-on}
 use Rattle.rows.proofs.Table.{zeros-rel}
 use Rattle.record.specs.Says.{executionOf}
-use Rattle.replay.specs.Sequence.{sequenceRules, stepRules}
+use Rattle.sequences.specs.Sequence.{sequenceRules, stepRules}
 use Rattle.replay.proofs.Sequencing.{sequence-numbered}
 use Rattle.replay.proofs.replay.from_twentyeight.Statement.{statement}
 use Rattle.replay.proofs.replay.from_twentyeight.Tie as tie

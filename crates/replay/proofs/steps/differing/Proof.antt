@@ -8,7 +8,7 @@ use borrow.Author.Tests.{not-true, not-false}
 use Rattle.order.specs.Least.{None}
 use Rattle.order.proofs.Searches.{none-yet, none-next, hit-at, hit-not}
 use Rattle.record.specs.Says.{executionOf}
-use Rattle.replay.specs.Sequence.{Differs}
+use Rattle.sequences.specs.Sequence.{Differs}
 use Rattle.replay.specs.Known.{Narrowed, StateAt}
 use Rattle.replay.proofs.Stating.{read-known}
 use Rattle.replay.proofs.Values.{step-is, step-low, differs-is, differs-not}
@@ -41,15 +41,17 @@ num1-requires c κs =
 has-requires : tie.Need-has-requires Inv-loop μ-loop
 has-requires c κs =
     let p = c .before .before .before .before .before .before .before .before .pre in
-    step-low _ (p .0 .0) _ _ (p .1) _ (c .before .loop-test .taken) _ (c .num1 .ensures .0) .1
+    let h = c .before .loop-test .taken in
+    step-low _ (p .0 .0) _ _ (p .1) _ (omega arith) _ (c .num1 .ensures .0) .1
 
 agrees-requires : tie.Need-agrees-requires Inv-loop μ-loop
 agrees-requires c κs =
     let w = c .before .before in
     let o = w .before .before in
     let p = o .before .before .before .before .before .before .pre in
+    let h = w .before .loop-test .taken in
     let (l, a, e) = p .1 in (
-      (p .0 .0, p .0 .1, p .0 .2, step-low _ (p .0 .0) _ _ (p .1) _ (w .before .loop-test .taken) _ (w .num1 .ensures .0) .0),
+      (p .0 .0, p .0 .1, p .0 .2, step-low _ (p .0 .0) _ _ (p .1) _ (omega arith) _ (w .num1 .ensures .0) .0),
       (l, (o .loop .i, o .loop .inv .1 l a e .0)),
     )
 
@@ -61,9 +63,10 @@ returns c l a e =
     let t = o .before .before .before .before .before .before in
     let z = executionOf (t .args .s .now) in
     let r = w .num1 .ensures .0 in
-    let g = step-low _ (t .pre .0 .0) _ _ (t .pre .1) _ (w .before .loop-test .taken) _ r .0 in
+    let h = w .before .loop-test .taken in
+    let g = step-low _ (t .pre .0 .0) _ _ (t .pre .1) _ (omega arith) _ r .0 in
     let (s, f) = o .loop .inv .1 l a e in
-    hit-at _ _ _ f (w .before .loop-test .taken)
+    hit-at _ _ _ f h
     (differs-is z l _ a _ (omega arith) _ r
     (read-known z _ (t .pre .0 .3) _ _ g _ (o .before .before .union .ensures) (d .has .ensures) .holds (c .before .before .if1 .taken))
     (c .before .agrees .ensures l _ s .fails (not-true _ (c .if2 .taken))))
@@ -72,7 +75,8 @@ step-requires : tie.Need-step-requires Inv-loop μ-loop
 step-requires c κs =
     let w = c .before .before in
     let p = w .before .before .before .before .before .before .before .before .pre in
-    let h = step-low _ (p .0 .0) _ _ (p .1) _ (w .before .loop-test .taken) _ (w .num1 .ensures .0) .1 in
+    let t = w .before .loop-test .taken in
+    let h = step-low _ (p .0 .0) _ _ (p .1) _ (omega arith) _ (w .num1 .ensures .0) .1 in
     let q = p .0 .2 .rows in
     (omega arith, h)
 

@@ -8,7 +8,7 @@ use Rattle.order.proofs.Searches.{none-yet, none-next, hit-at}
 use Rattle.record.specs.Execution.{Execution}
 use Rattle.record.specs.Formed.{Formed}
 use Rattle.structure.specs.Structure.{structureRules}
-use Rattle.replay.specs.Sequence.{Reversed}
+use Rattle.sequences.specs.Sequence.{Reversed}
 use Rattle.replay.specs.Known.{Sequenced, Programmed}
 use Rattle.replay.proofs.Reversing.{reversed-none}
 use Rattle.replay.proofs.steps.reversed.Statement.{statement}

@@ -1,6 +1,5 @@
 use borrow.Author.Needs.{needs}
-use Rattle.rows.specs.Members.{value}
-use Rattle.rows.proofs.Members.{first-in, taken-less}
+use Rattle.rows.proofs.Members.{value, first-in, taken-less}
 use Rattle.record.specs.Says.{executionOf}
 use Rattle.record.proofs.Formings.{formed}
 use Rattle.structure.proofs.Partners.{Firsts, firsts-begin, firsts-found, firsts-more, firsts-done}

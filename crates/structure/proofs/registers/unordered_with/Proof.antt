@@ -1,7 +1,6 @@
 use native.Mathlib.Omega.{arith}
 use borrow.Author.Needs.{needs}
-use Rattle.rows.specs.Members.{value}
-use Rattle.rows.proofs.Members.{first-in, taken-less, in-low}
+use Rattle.rows.proofs.Members.{value, first-in, taken-less, in-low}
 use Rattle.record.specs.Says.{executionOf}
 use Rattle.record.proofs.Formings.{formed}
 use Rattle.structure.proofs.Partners.{Partners, partners-begin, partner-is, partners-more, partner-found, partners-done, tested, partner-tested}

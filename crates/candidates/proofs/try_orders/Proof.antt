@@ -1,0 +1,62 @@
+use mathlib.Core.Path.{_≡_}
+use borrow.Author.Needs.{needs}
+use lib.ListN.{length}
+use Rattle.candidates.proofs.try_orders.Statement.{statement}
+use Rattle.candidates.proofs.try_orders.Tie as tie
+
+abbrev Inv-loop : tie.InvT-loop
+Inv-loop rec₀ n nine bounds₀ o sum₀ left₀ rec bounds sum left = length rec ≡ length rec₀
+
+abbrev μ-loop : tie.MeasureT-loop
+μ-loop rec₀ n nine bounds₀ o sum₀ left₀ rec bounds sum left = left
+
+loop-holds : tie.Need-loop-holds Inv-loop μ-loop
+loop-holds c = search needs
+
+try-order-requires : tie.Need-try-order-requires Inv-loop μ-loop
+try-order-requires c κs = search needs
+
+advance-requires : tie.Need-advance-requires Inv-loop μ-loop
+advance-requires c κs = search needs
+
+same-length : tie.Need-same-length Inv-loop μ-loop
+same-length c = search needs
+
+returns : tie.Need-returns Inv-loop μ-loop
+returns c = search needs
+
+sub-left : tie.Need-sub-left Inv-loop μ-loop
+sub-left c = search needs
+
+loop-less : tie.Need-loop-less Inv-loop μ-loop
+loop-less c = search needs
+
+loop-again : tie.Need-loop-again Inv-loop μ-loop
+loop-again c = search needs
+
+opened-requires : tie.Need-opened-requires Inv-loop μ-loop
+opened-requires c κs = search needs
+
+same-length-2 : tie.Need-same-length-2 Inv-loop μ-loop
+same-length-2 c = search needs
+
+returns-2 : tie.Need-returns-2 Inv-loop μ-loop
+returns-2 c = search needs
+
+pub try-orders-spec : {M : Type 1} → statement M
+try-orders-spec =
+    tie.close
+    (tie.spec
+    Inv-loop
+    μ-loop
+    loop-holds
+    try-order-requires
+    advance-requires
+    same-length
+    returns
+    sub-left
+    loop-less
+    loop-again
+    opened-requires
+    same-length-2
+    returns-2)

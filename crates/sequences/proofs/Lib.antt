@@ -1,0 +1,12 @@
+pub mod Agreement
+pub mod Along
+pub mod Bounds
+pub mod Locking
+pub mod Members
+pub mod Pasts
+pub mod Picking
+pub mod Reading
+pub mod Sequential
+pub mod Sourcing
+pub mod Tests
+pub mod Witnesses

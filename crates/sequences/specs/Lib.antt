@@ -1,0 +1,3 @@
+pub mod ReadOff
+pub mod Sequence
+pub mod Sequential
