@@ -3,7 +3,6 @@ use Prim.Native.Nat.{ℕ, _<_}
 use mathlib.Core.Path.{_≡_, refl}
 use mathlib.Core.List.{List, [], _∷_}
 use mathlib.Core.Logic.{_⊎_, inl, inr, ⊎-elim}
-use native.Mathlib.Decide.{ℕ-discrete}
 use Rattle.order.specs.Relation.{Trail, Chain}
 use Rattle.rows.specs.Members.{In, Is, Member, Meet}
 use Rattle.rows.specs.Table.{rel, on}

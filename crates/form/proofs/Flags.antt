@@ -8,10 +8,10 @@ use native.Mathlib.Omega.{arith}
 use lib.Dec.{leb, ltb, eqb}
 use borrow.Author.Tests.{ltb-true, leb-true, eqb-true, lt-ltb, le-leb, lt-leb, eq-eqb, ne-eqb}
 use Rattle.form.specs.Bytes.{num}
-use Rattle.form.specs.Form.{fieldsFrom, eventFields, initialFields, placeRight, ownerRight}
+use Rattle.form.specs.Form.{fieldsFrom, eventFields, lockFields, initialFields, placeRight, ownerRight}
 use Rattle.form.specs.declared.Counts.{Counts}
 use Rattle.form.specs.declared.Step.the-variants.{Next}
-use Rattle.form.proofs.Branches.{event-right, initial-right}
+use Rattle.form.proofs.Branches.{event-right, lock-right, initial-right}
 
 pub both : (a b : Bool) → (a && b) ≡ true → (a ≡ true) × (b ≡ true)
 both true b h = (refl, h)
@@ -36,6 +36,10 @@ owner-memory k p n h g = simp (eq-eqb _ _ h, eq-eqb _ _ g)
 owner-register : (k p n : ℕ) → (k ≡ 0 → ⊥) → p < n → ownerRight k p n ≡ true
 unfolding ownerRight
 owner-register k p n h g = simp (ne-eqb _ _ h, lt-ltb _ _ g)
+
+pub lock-flag : (c : Counts) (s : List ℕ) (at head : ℕ) → head % 256 ≡ num 1 s at → head / 256 % 256 ≡ num 1 s (at + 1) → c .processors < 256
+    → ltb (head % 65536) (c .processors) ≡ true → Next (at + 4) ≡ fieldsFrom 4 (lockFields c s at) at
+lock-flag c s at head first second few h = let l : head % 65536 < c .processors = ltb-true _ _ h in lock-right c s at (omega arith) (omega arith)
 
 module _ (c : Counts) (s : List ℕ) (at head place : ℕ) (value : place ≡ num 4 s (at + 4)) where
   -- an address divisible by 4 where `a` holds, or a register where `b` and `d` do

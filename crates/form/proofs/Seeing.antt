@@ -12,7 +12,7 @@ use lib.ListN.{length, getD}
 use borrow.Author.Tests.{le-leb}
 use Rattle.form.specs.Bytes.{num}
 use Rattle.form.specs.Steps.{upto}
-use Rattle.form.specs.Form.{Section, width, due, fields, fieldsFrom, eventFields, initialFields, entry, entries}
+use Rattle.form.specs.Form.{Section, width, due, fields, fieldsFrom, eventFields, lockFields, initialFields, entry, entries}
 use Rattle.form.specs.Seen.{Leading, Seen}
 use Rattle.form.specs.declared.Counts.{Counts}
 use Rattle.form.specs.declared.Step.the-variants.{Next}
@@ -104,20 +104,28 @@ module _ (c : Counts) (s : List ℕ) (k at m : ℕ) where
       let l = p .most in
       rw (sym (add-one i)) (upto-next _ i m _ _ (seen-on i q) _ (omega arith) (p .right i (omega arith)))
 
--- entries of twelve bytes
-module _ (c : Counts) (s : List ℕ) (at m i : ℕ) (l : i < m) (f : at + 12 * i + 12 ≤ length s) (z : ℕ) where
-  twelve : (k : ℕ) → Section k → 12 ≡ width k → Seen c s k m at i → fieldsFrom k (fields c s k (at + 12 * i)) (at + 12 * i) ≡ Next z → Seen c s k m at (i + 1)
-  twelve k sec w p e =
-      let q : 12 * i ≡ i * width k = mul-comm 12 i ∙ ap (λ (x : ℕ). i * x) w in
+-- entries of w bytes
+module _ (c : Counts) (s : List ℕ) (at m i : ℕ) (l : i < m) (z : ℕ) where
+  seen-next : (k w : ℕ) → Section k → w ≡ width k → at + w * i + w ≤ length s
+      → Seen c s k m at i → fieldsFrom k (fields c s k (at + w * i)) (at + w * i) ≡ Next z → Seen c s k m at (i + 1)
+  seen-next k w sec wide f p e =
+      let q : w * i ≡ i * width k = mul-comm w i ∙ ap (λ (x : ℕ). i * x) wide in
       seen-more c s k at m i p l (seen-entry c s k at m sec i z (omega arith) (rw q at e))
 
-  pub seen-event : Seen c s 2 m at i → fieldsFrom 2 (eventFields c s (at + 12 * i)) (at + 12 * i) ≡ Next z → Seen c s 2 m at (i + 1)
+  pub seen-event : at + 12 * i + 12 ≤ length s → Seen c s 2 m at i
+      → fieldsFrom 2 (eventFields c s (at + 12 * i)) (at + 12 * i) ≡ Next z → Seen c s 2 m at (i + 1)
   unfolding fields width
-  seen-event = twelve 2 (record { from = omega arith; to = omega arith }) refl
+  seen-event = seen-next 2 12 (record { from = omega arith; to = omega arith }) refl
 
-  pub seen-initial : Seen c s 5 m at i → fieldsFrom 5 (initialFields c s (at + 12 * i)) (at + 12 * i) ≡ Next z → Seen c s 5 m at (i + 1)
+  pub seen-lock : at + 4 * i + 4 ≤ length s → Seen c s 4 m at i
+      → fieldsFrom 4 (lockFields c s (at + 4 * i)) (at + 4 * i) ≡ Next z → Seen c s 4 m at (i + 1)
   unfolding fields width
-  seen-initial = twelve 5 (record { from = omega arith; to = omega arith }) refl
+  seen-lock = seen-next 4 4 (record { from = omega arith; to = omega arith }) refl
+
+  pub seen-initial : at + 12 * i + 12 ≤ length s → Seen c s 5 m at i
+      → fieldsFrom 5 (initialFields c s (at + 12 * i)) (at + 12 * i) ≡ Next z → Seen c s 5 m at (i + 1)
+  unfolding fields width
+  seen-initial = seen-next 5 12 (record { from = omega arith; to = omega arith }) refl
 
 one-wide : (k : ℕ) → (k ≡ 6) ⊎ (k ≡ 9) → 1 ≡ width k
 unfolding width

@@ -1,5 +1,5 @@
 -- The form of a record, form 1, as reading meets it: each check gives the place after what it read, or the first fault.
-use Prim.Native.Nat.{ℕ, zero, _+_, _%_, _≤_}
+use Prim.Native.Nat.{ℕ, _+_, _%_, _≤_}
 use mathlib.Core.List.{List, [], _∷_}
 use mathlib.Core.Bool.{Bool, true, false}
 use lib.ListN.{length, getD}

@@ -5,7 +5,7 @@ ghost use mathlib.Core.Bool.{true};
 ghost use Prim.Native.Nat.{_+_, _/_, _%_, _≤_, _<_};
 ghost use lib.ListN.{length};
 ghost use Rattle.form.specs.Bytes.{num};
-ghost use Rattle.form.specs.Form.{Section, fieldsFrom, eventFields, initialFields};
+ghost use Rattle.form.specs.Form.{Section, fieldsFrom, eventFields, lockFields, initialFields};
 ghost use Rattle.form.specs.Seen.{Leading, Seen};
 ghost use Rattle.form.specs.declared.Step.the-variants.{Next};
 use crate::Counts;
@@ -122,6 +122,39 @@ fn initials(c: Counts, s: &[u8], m: usize, at: usize) -> usize
     if right { m } else { 0 }
 }
 
+// True only where the fields of a locked instruction are right.
+fn lock_right(c: Counts, s: &[u8], at: usize) -> bool
+    requires { ⌜ (c .processors < 256) × (at + 4 ≤ length (now s)) ⌝ }
+    ensures { λ r. ⌜ (r ≡ true → Next (at + 4) ≡ fieldsFrom 4 (lockFields c (now (s .entry)) at) at) ⌝ }
+{
+    let processors = c.processors as u32;
+    word(s, at) % 65536 < processors
+}
+
+// How many of the `m` locked instructions at `at`: all, or none is counted.
+fn locks(c: Counts, s: &[u8], m: usize, at: usize) -> usize
+    requires { ⌜ m < 65536 ⌝ }
+    ensures { λ r. ⌜ Seen c (now (s .entry)) 4 m at r ⌝ }
+{
+    let processors = c.processors;
+    if s.len() < at {
+        return 0;
+    }
+    if s.len() - at < 4 * m {
+        return 0;
+    }
+    if 255 < processors {
+        return 0;
+    }
+    let mut right = true;
+    let mut i: usize = 0;
+    while i < m {
+        right = right & lock_right(c, s, at + 4 * i);
+        i = i + 1;
+    }
+    if right { m } else { 0 }
+}
+
 // How many of the `m` entries of section `k` at `at`.
 pub fn glance(c: Counts, s: &[u8], k: u16, m: usize, at: usize) -> usize
     requires { ⌜ Section k × (m < 65536) ⌝ }
@@ -132,6 +165,7 @@ pub fn glance(c: Counts, s: &[u8], k: u16, m: usize, at: usize) -> usize
     match k {
         2 => events(c, s, m, at),
         3 | 8 => below(s, n, at, 2 * m) / 2,
+        4 => locks(c, s, m, at),
         5 => initials(c, s, m, at),
         6 | 9 => below(s, n, at, m),
         7 => below(s, g, at, m),

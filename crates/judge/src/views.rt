@@ -90,15 +90,13 @@ pub fn from_twentyfour(
     requires { ⌜ Ordered (now s) (now q) (now m) (now u) (now h) g × Sorted (executionOf (now s)) (now f) × (65 ≤ length (now ev)) ⌝ }
     ensures { λ r. ⌜ Given (Judged (orderRules (executionOf (now (s .entry))))) (now (ev .entry)) (now (ev .exit)) (r .answer) (r .count) ⌝ }
 {
-    let l = g.layout;
-    let c = g.classes;
-    let n = l.processors;
-    let mut at = l.views;
+    let n = g.layout.processors;
+    let mut at = g.layout.views;
     let mut all = true;
     let mut p = 0;
     while p < n {
         let view = view_of(s, p, at);
-        let seen = rows::union(rows::row(f, p), c.stores);
+        let seen = rows::union(rows::row(f, p), g.classes.stores);
         let found = look(s, view, q, m, u, h, g, seen, p, ev);
         if 0 < found.count {
             return Verdict {

@@ -6,8 +6,8 @@ use mathlib.Core.List.{List, [], _∷_}
 use native.Mathlib.Omega.{arith}
 use Rattle.order.specs.Least.{Some, None}
 use Rattle.order.specs.Rule.{AllKept}
-use Rattle.order.proofs.Searches.{kept-from}
-use Rattle.order.proofs.Rules.{cycle-kept, kept-cycle, cyclic-as}
+use Rattle.order.proofs.Searches.{of-from, kept-from}
+use Rattle.order.proofs.Rules.{cycle-kept, kept-cycle, cyclic-as, round-as}
 use Rattle.record.specs.Execution.{Items, Pair, Execution}
 use Rattle.record.specs.Formed.{Each, PairFormed, Formed}
 use Rattle.record.specs.Words.{SameInstruction, Belongs, OfLock, Causes, InitialFor}
@@ -17,7 +17,7 @@ use Rattle.model.specs.Agree.{Alike, AgreeIn, Agree}
 use Rattle.model.specs.Model.{Store, Locked, KeepsOrder, Preserved, Before, StoreOrder, LockedOrder, Source, HappensBefore, Sees, OrderFor}
 use Rattle.model.specs.Rules.{Stands, Misplaced, WriteAndRead, WrongSource, WritesPlace, Overwritten, Unsourced, Initially, WrongInitial, BreaksUp, Torn, orderRules, checkRules}
 use Rattle.model.specs.ViewAlone.{Broken, Names}
-use Rattle.model.proofs.Breaks.{kept-unbroken, unbroken-kept, of-from, round-as, order-names}
+use Rattle.model.proofs.Breaks.{kept-unbroken, unbroken-kept, order-names}
 use Rattle.model.proofs.Lists.{Proper, before-ends}
 use Rattle.model.proofs.Serializations.{Stored, kept-stored, stored-kept, Queued, kept-queued, queued-kept}
 use Rattle.model.proofs.Views.{Viewed, kept-viewed, viewed-kept}

@@ -1,12 +1,10 @@
 -- What breaks a rule: a refusal has a list that does, rules are kept where none does, and what breaks 24 to 27 names a processor.
-use Prim.Native.Nat.{ℕ, zero, suc, _<_}
+use Prim.Native.Nat.{ℕ, _<_}
 use mathlib.Core.Path.{_≡_, refl}
 use mathlib.Core.Logic.{inl, inr}
 use mathlib.Core.List.{List, [], _∷_}
-use Rattle.order.specs.Relation.{Rel}
-use Rattle.order.specs.Rule.{Rule, Judged, AllKept, About, Of, Round}
-use Rattle.order.proofs.Rules.{cycle-as}
-use Rattle.order.proofs.Searches.{From, of-any}
+use Rattle.order.specs.Rule.{Rule, Judged, AllKept}
+use Rattle.order.proofs.Searches.{of-any}
 use Rattle.record.specs.Execution.{Execution}
 use Rattle.model.specs.Rules.{Overwritten, WrongInitial, Torn, orderRules}
 use Rattle.model.specs.ViewAlone.{Broken, Names}
@@ -27,18 +25,6 @@ kept-unbroken (q ∷ qs) k n w e (inr b) = kept-unbroken qs (k .1) n w e b
 pub unbroken-kept : (qs : List Rule) → ((n : ℕ) (w e : List ℕ) → Broken qs n w e → ⊥) → AllKept qs
 unbroken-kept [] f = tt
 unbroken-kept (q ∷ qs) f = (λ w b. f (q .number) w (q .shown w) (inl (refl, b, refl)), unbroken-kept qs (λ n w e b. f n w e (inr b)))
-
--- ---- one property under two names
-
-pub of-from : (n : ℕ) (P Q : About n) → From n P Q → (w : List ℕ) → Of n Q w → Of n P w
-of-from zero P Q f [] q = f q
-of-from zero P Q f (a ∷ w) q = q
-of-from (suc n) P Q f [] q = q
-of-from (suc n) P Q f (a ∷ w) q = of-from n (P a) (Q a) (f a) w q
-
-pub round-as : (R Q : Rel) → ((a b : ℕ) → R a b → Q a b) → (w : List ℕ) → Round R w → Round Q w
-round-as R Q f [] r = r
-round-as R Q f (k ∷ l) (e, c, b) = (e, cycle-as R Q f l c, b)
 
 -- ---- the rules 24 to 27
 

@@ -64,6 +64,10 @@ module _ (R Q : Rel) (f : (a b : ℕ) → R a b → Q a b) where
   pub cyclic-as : Cyclic R → Cyclic Q
   cyclic-as (l, r) = (l, cycle-as l r)
 
+pub round-as : (R Q : Rel) → ((a b : ℕ) → R a b → Q a b) → (w : List ℕ) → Round R w → Round Q w
+round-as R Q f [] r = r
+round-as R Q f (k ∷ l) (e, c, b) = (e, cycle-as R Q f l c, b)
+
 pub shown-as : (R Q : Rel) → ((a b : ℕ) → R a b → Q a b) → ((a b : ℕ) → Q a b → R a b) → (l : List ℕ) → Shown R l → Shown Q l
 shown-as R Q f g l s = record {
   cycle = cycle-as R Q f l (s .cycle);

@@ -1,7 +1,7 @@
 -- A search below n, number by number, and how such searches nest.
 use Prim.Native.Nat.{ℕ, zero, suc, _+_, _<_, _≤_}
 use mathlib.Core.Path.{_≡_, refl}
-use mathlib.Core.Logic.{inl, inr, ⊎-elim}
+use mathlib.Core.Logic.{inl, ⊎-elim}
 use mathlib.Core.List.{List, [], _∷_, _++_}
 use lib.ListN.{length, set, drop}
 use native.Mathlib.Decide.{decLt}
@@ -9,7 +9,7 @@ use native.Mathlib.Omega.{arith}
 use Rattle.order.specs.Least.{None, Hit}
 use Rattle.order.specs.Dictionary.{Firstly}
 use Rattle.order.specs.Rule.{Rule, Judged, About, Of, Any, rule, entryRule}
-use Rattle.order.specs.Evidence.{Ruled, Written, Given}
+use Rattle.order.specs.Evidence.{Given}
 use Rattle.order.proofs.Numbers.{last-or}
 use Rattle.order.proofs.Dictionaries.{firstly-nil, firstly-cons}
 
@@ -66,12 +66,15 @@ abbrev pub From : (n : ℕ) → About n → About n → Type 0
 From zero P Q = Q → P
 From (suc n) P Q = (k : ℕ) → From n (P k) (Q k)
 
+pub of-from : (n : ℕ) (P Q : About n) → From n P Q → (w : List ℕ) → Of n Q w → Of n P w
+of-from zero P Q f [] q = f q
+of-from zero P Q f (a ∷ w) q = q
+of-from (suc n) P Q f [] q = q
+of-from (suc n) P Q f (a ∷ w) q = of-from n (P a) (Q a) (f a) w q
+
 -- so where P breaks no rule, Q breaks none
 pub kept-from : (n : ℕ) (P Q : About n) → From n P Q → ((w : List ℕ) → Of n P w → ⊥) → (w : List ℕ) → Of n Q w → ⊥
-kept-from zero P Q f k [] q = k [] (f q)
-kept-from zero P Q f k (a ∷ w) q = q
-kept-from (suc n) P Q f k [] q = q
-kept-from (suc n) P Q f k (a ∷ w) q = kept-from n (P a) (Q a) (f a) (λ v. k (a ∷ v)) w q
+kept-from n P Q f k w q = k w (of-from n P Q f w q)
 
 -- entries written at the front of a buffer
 pub put-one : (x : ℕ) (l : List ℕ) → 1 ≤ length l → set l 0 x ≡ (x ∷ []) ++ drop 1 l

@@ -1,9 +1,9 @@
 -- The demands hold.
 use Prim.Native.Nat.{ℕ, _≤_, _<_}
-use mathlib.Core.Path.{_≡_, refl, sym, _∙_, ap, subst}
+use mathlib.Core.Path.{_≡_, refl, sym, _∙_, subst}
 use mathlib.Core.Logic.{_↔_, Iff·trans, inl, inr}
 use mathlib.Core.Bool.{Bool, true, false}
-use mathlib.Core.List.{List, [], _∷_, _++_}
+use mathlib.Core.List.{List, _∷_, _++_}
 use native.Mathlib.Omega.{arith}
 use native.Mathlib.Decide.{decLt}
 use lib.ListN.{length, take, drop}
@@ -16,7 +16,6 @@ use Rattle.form.specs.Whole.{whole}
 use Rattle.form.specs.declared.Step.{Step}
 use Rattle.form.specs.declared.Step.the-variants.{Next, Stop}
 use Rattle.form.proofs.Answers.{Fair, fair-whole}
-use Rattle.record.specs.Execution.{Execution}
 use Rattle.record.specs.Says.{executionOf}
 use Rattle.record.specs.View.{answerBy, viewAnswer}
 use Rattle.structure.specs.Structure.{structureRules}

@@ -1,10 +1,9 @@
 -- Entries read in place: where their fields stand, and that the place is within the record.
 use Prim.Native.Nat.{ℕ, _+_, _*_, _<_, _≤_}
-use mathlib.Core.Path.{_≡_, sym, ap, _∙_}
+use mathlib.Core.Path.{_≡_, ap}
 use mathlib.Core.Logic.{_⊎_, inl, inr}
 use mathlib.Core.List.{List}
 use native.Mathlib.Omega.{arith}
-use native.Mathlib.Nat.{one-mul}
 use lib.ListN.{length}
 use lib.Dec.{eqb, ltb, leb}
 use mathlib.Core.Bool.{_||_, _&&_}

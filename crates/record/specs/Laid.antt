@@ -1,5 +1,5 @@
 -- Where the sections of a record stand.
-use Prim.Native.Nat.{ℕ, _+_, _<_}
+use Prim.Native.Nat.{ℕ, _+_}
 use mathlib.Core.Path.{_≡_}
 use mathlib.Core.List.{List}
 use Rattle.form.specs.Bytes.{num}

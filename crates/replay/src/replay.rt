@@ -1,7 +1,7 @@
 // The operation: the rules 28 to 33 behind form and structure.
-ghost use Prim.Native.Nat.{_≤_};
-ghost use mathlib.Core.List.{_++_};
-ghost use lib.ListN.{length};
+ghost use Prim.Native.Nat.{ℕ, _≤_};
+ghost use mathlib.Core.List.{List, _++_};
+ghost use lib.ListN.{length, drop};
 ghost use Rattle.order.specs.Rule.{Judged, AllKept};
 ghost use Rattle.order.specs.Evidence.{Given};
 ghost use Rattle.form.specs.Right.{Right};
@@ -27,6 +27,35 @@ use record::Layout;
 use record::Verdict;
 use record::sections::layout;
 use structure::rules::structure;
+
+// Rule 33. The numbers of the list are the first bytes of b.
+fn from_thirtythree(
+    s: &[u8],
+    l: Layout,
+    q: &[u64],
+    c: Classes,
+    b: &[u8],
+    list: &[u16],
+    ev: &mut [u16],
+) -> Verdict
+    requires { ⌜ Ready (now s) l (now q) c × ((u : List ℕ) × Sequenced (executionOf (now s)) (now list) (now b) u) × (65 ≤ length (now ev)) ⌝ }
+    ensures { λ r. ⌜ Given (Judged (drop 1 (stepRules (executionOf (now (s .entry))) (now (list .entry))))) (now (ev .entry)) (now (ev .exit)) (r .answer) (r .count) ⌝ }
+{
+    let n = l.events;
+    let initials = l.initials;
+    let i = differing(s, initials, q, c, b, n);
+    if i < n {
+        ev[0] = num1(b, i) as u16;
+        return Verdict {
+            answer: 33,
+            count: 1,
+        };
+    }
+    Verdict {
+        answer: 0,
+        count: 0,
+    }
+}
 
 // The rules 32 and 33. The table t has section 3; b and u have the list.
 fn from_thirtytwo(
@@ -56,19 +85,7 @@ fn from_thirtytwo(
             count: 2,
         };
     }
-    let initials = l.initials;
-    let i = differing(s, initials, q, c, b, n);
-    if i < n {
-        ev[0] = num1(b, i) as u16;
-        return Verdict {
-            answer: 33,
-            count: 1,
-        };
-    }
-    Verdict {
-        answer: 0,
-        count: 0,
-    }
+    from_thirtythree(s, l, q, c, b, list, ev)
 }
 
 // The rules 28 to 33. The table t has section 3.

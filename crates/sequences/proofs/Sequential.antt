@@ -19,7 +19,7 @@ use Rattle.model.specs.Rules.{WritesPlace, BreaksUp, checkRules}
 use Rattle.model.specs.Says.{structureOf, witnessOf, Spelled}
 use Rattle.model.proofs.Decisions.{certain, dec-instruction}
 use Rattle.model.proofs.Validity.{kept-valid, valid-kept}
-use Rattle.model.proofs.Lists.{Proper, misplaced-not, before-ends, before-upto, before-or, before-trans, before-differ, upto-ends, upto-before, upto-linear, one-place}
+use Rattle.model.proofs.Lists.{Proper, before-ends, before-upto, before-or, before-trans, before-differ, upto-ends, upto-before, upto-linear, one-place}
 use Rattle.model.proofs.Words.{store-is, writes-is, reads-is, seen-is, place-is, address-of}
 use Rattle.sequences.specs.Sequence.{steps, LastWrite, BrokenUp, onceRules, sequenceRules, stepRules, replayRules}
 use Rattle.sequences.specs.ReadOff.{event, readOff}

@@ -1,19 +1,17 @@
 -- The search for the cycle that is shown: length by length, each begun at its least event.
 use Prim.Native.Nat.{ℕ, zero, suc, _<_, _≤_}
 use mathlib.Core.Path.{_≡_, refl}
-use mathlib.Core.Logic.{_⊎_, inl, inr}
 use mathlib.Core.Bool.{Bool, false, _&&_}
-use mathlib.Core.List.{List, [], _∷_, List·Memᴰ, List·Memᴰ·head, List·Memᴰ·tail}
+use mathlib.Core.List.{List, [], _∷_}
 use native.Mathlib.Omega.{arith}
-use native.Mathlib.Decide.{decLt}
 use lib.Dec.{leb}
 use lib.ListN.{length}
 use Rattle.order.specs.Decides.{Decides}
 use Rattle.order.specs.Least.{Some}
 use Rattle.order.specs.Relation.{Rel, Trail, Cycle, Below}
 use Rattle.order.specs.Rule.{Round, Rounds}
-use Rattle.order.specs.Shown.{AtLeast, Begun}
-use Rattle.order.proofs.Cycles.{turned, cycle-within}
+use Rattle.order.specs.Shown.{AtLeast}
+use Rattle.order.proofs.Cycles.{cycle-within}
 use Rattle.order.proofs.Rules.{round-cyclic, begun}
 use Rattle.order.proofs.Tests.{by-and, by-le, by-as, by-no}
 use Rattle.slots.proofs.Searching.{Search, stop, more, Fits, fits-as, guard, guard-fits}

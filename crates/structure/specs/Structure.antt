@@ -36,6 +36,7 @@ Eventless x i = (i < x .locks .size) × None (x .events .size) (λ e. Belongs (x
 unfoldable pub Repeated : Execution → ℕ → Type 0
 Repeated x i = (i < x .locks .size) × Some i (λ j. x .locks .item j ≡ x .locks .item i)
 
+-- the structure rules; 11: section 3 has a cycle
 abbrev pub structureRules : Execution → List Rule
 structureRules x =
     entryRule 10 (Joining x) (pairOf x)

@@ -12,6 +12,9 @@ mul-below c = search needs
 below-requires : tie.Need-below-requires
 below-requires c κs = search needs
 
+locks-requires : tie.Need-locks-requires
+locks-requires c κs = search needs
+
 initials-requires : tie.Need-initials-requires
 initials-requires c κs = search needs
 
@@ -28,16 +31,19 @@ returns-2 : tie.Need-returns-2
 returns-2 c = seen-pairs _ _ _ _ _ (c .before .before .before .pre .0) (c .before .match .keys2) _ (c .below .ensures)
 
 returns-3 : tie.Need-returns-3
-returns-3 c = rw (c .before .match .keys3) (c .initials .ensures)
+returns-3 c = rw (c .before .match .keys3) (c .locks .ensures)
 
 returns-4 : tie.Need-returns-4
-returns-4 c = seen-numbers _ _ _ _ _ (c .before .before .before .pre .0) (c .before .match .keys4) _ (c .below2 .ensures)
+returns-4 c = rw (c .before .match .keys4) (c .initials .ensures)
 
 returns-5 : tie.Need-returns-5
-returns-5 c = seen-locks _ _ _ _ _ (c .before .before .before .pre .0) (c .before .match .keys5) _ (c .below3 .ensures)
+returns-5 c = seen-numbers _ _ _ _ _ (c .before .before .before .pre .0) (c .before .match .keys5) _ (c .below2 .ensures)
 
 returns-6 : tie.Need-returns-6
-returns-6 c = seen-none _ _ _ _ _
+returns-6 c = seen-locks _ _ _ _ _ (c .before .before .before .pre .0) (c .before .match .keys6) _ (c .below3 .ensures)
+
+returns-7 : tie.Need-returns-7
+returns-7 c = seen-none _ _ _ _ _
 
 pub glance-spec : {M : Type 1} → statement M
 glance-spec =
@@ -46,6 +52,7 @@ glance-spec =
     events-requires
     mul-below
     below-requires
+    locks-requires
     initials-requires
     below-requires-2
     below-requires-3
@@ -54,4 +61,5 @@ glance-spec =
     returns-3
     returns-4
     returns-5
-    returns-6)
+    returns-6
+    returns-7)

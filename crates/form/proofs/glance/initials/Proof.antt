@@ -48,7 +48,7 @@ loop-less c = omega arith
 loop-again : tie.Need-loop-again Inv-loop μ-loop
 loop-again c = let l = c .before in
     let t = l .loop-test .taken in
-    flagged-more _ _ _ _ _ _ _ _ (l .before .loop .inv) t (λ h p. seen-initial _ _ _ _ _ t (omega arith) _ p (sym (c .initial-right .ensures h)))
+    flagged-more _ _ _ _ _ _ _ _ (l .before .loop .inv) t (λ h p. seen-initial _ _ _ _ _ t _ (omega arith) p (sym (c .initial-right .ensures h)))
 
 returns-4 : tie.Need-returns-4 Inv-loop μ-loop
 returns-4 c = flagged-all _ _ _ _ _ _ _ (c .before .before .loop .inv) (omega arith) (c .if4 .taken)

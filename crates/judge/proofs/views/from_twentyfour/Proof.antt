@@ -9,19 +9,19 @@ use Rattle.judge.proofs.views.from_twentyfour.Statement.{statement}
 use Rattle.judge.proofs.views.from_twentyfour.Tie as tie
 
 abbrev Inv-loop : tie.InvT-loop
-Inv-loop s f q m u h g ev₀ c n at₀ all₀ p₀ ev at all p = Watched s ev₀ ev at all p
+Inv-loop s f q m u h g ev₀ n at₀ all₀ p₀ ev at all p = Watched s ev₀ ev at all p
 
 abbrev μ-loop : tie.MeasureT-loop
-μ-loop s f q m u h g ev₀ c n at₀ all₀ p₀ ev at all p = n - p
+μ-loop s f q m u h g ev₀ n at₀ all₀ p₀ ev at all p = n - p
 
 loop-holds : tie.Need-loop-holds Inv-loop μ-loop
-loop-holds c = let a = c .before .before .before .before .before .before .before .before .before in
+loop-holds c = let a = c .before .before .before .before .before .before .before in
     watched-begin (a .args .s .now) _ _ (a .pre .0 .ready .laid .views)
 
 view-of-requires : tie.Need-view-of-requires Inv-loop μ-loop
 view-of-requires c κs = let t = c in
     let l = t .before in
-    let a = l .before .before .before .before .before .before .before .before .before .before in
+    let a = l .before .before .before .before .before .before .before .before in
     let o = a .pre .0 in
     let x = l .loop .inv in
     let p = processor-is _ _ _ _ _ _ o _ (t .loop-test .taken) in
@@ -30,7 +30,7 @@ view-of-requires c κs = let t = c in
 row-requires : tie.Need-row-requires Inv-loop μ-loop
 row-requires c κs = let t = c .before in
     let l = t .before in
-    let a = l .before .before .before .before .before .before .before .before .before .before in
+    let a = l .before .before .before .before .before .before .before .before in
     let o = a .pre .0 in
     let x = l .loop .inv in
     let p = processor-is _ _ _ _ _ _ o _ (t .loop-test .taken) in
@@ -44,7 +44,7 @@ union-requires c κs = tt
 look-requires : tie.Need-look-requires Inv-loop μ-loop
 look-requires c κs = let t = c .before .before .before .before in
     let l = t .before in
-    let a = l .before .before .before .before .before .before .before .before .before .before in
+    let a = l .before .before .before .before .before .before .before .before in
     let o = a .pre .0 in
     let x = l .loop .inv in
     let p = processor-is _ _ _ _ _ _ o _ (t .loop-test .taken) in
@@ -58,7 +58,7 @@ returns : tie.Need-returns Inv-loop μ-loop
 returns c = let k = c .before .before .before .before in
     let t = k .before .before .before .before .before in
     let l = t .before in
-    let a = l .before .before .before .before .before .before .before .before .before .before in
+    let a = l .before .before .before .before .before .before .before .before in
     let o = a .pre .0 in
     let x = l .loop .inv in
     let p = processor-is _ _ _ _ _ _ o _ (t .loop-test .taken) in
@@ -68,7 +68,7 @@ add-at : tie.Need-add-at Inv-loop μ-loop
 add-at c = let k = c .before .before .before .before .before .before in
     let t = k .before .before .before .before .before in
     let l = t .before in
-    let a = l .before .before .before .before .before .before .before .before .before .before in
+    let a = l .before .before .before .before .before .before .before .before in
     let o = a .pre .0 in
     let x = l .loop .inv in
     let p = processor-is _ _ _ _ _ _ o _ (t .loop-test .taken) in
@@ -79,7 +79,7 @@ add-p : tie.Need-add-p Inv-loop μ-loop
 add-p c = let k = c .before .before .before .before .before .before in
     let t = k .before .before .before .before .before in
     let l = t .before in
-    let a = l .before .before .before .before .before .before .before .before .before .before in
+    let a = l .before .before .before .before .before .before .before .before in
     let o = a .pre .0 in
     let x = l .loop .inv in
     let p = processor-is _ _ _ _ _ _ o _ (t .loop-test .taken) in
@@ -95,7 +95,7 @@ loop-again : tie.Need-loop-again Inv-loop μ-loop
 loop-again c = let k = c .before .before .before .before .before .before in
     let t = k .before .before .before .before .before in
     let l = t .before in
-    let a = l .before .before .before .before .before .before .before .before .before .before in
+    let a = l .before .before .before .before .before .before .before .before in
     let o = a .pre .0 in
     let x = l .loop .inv in
     let p = processor-is _ _ _ _ _ _ o _ (t .loop-test .taken) in
@@ -106,12 +106,12 @@ same-length-2 c = ap length (c .before .before .loop .inv .same)
 
 returns-2 : tie.Need-returns-2 Inv-loop μ-loop
 returns-2 c = let l = c .before .before in
-    let a = l .before .before .before .before .before .before .before .before .before .before in
+    let a = l .before .before .before .before .before .before .before .before in
     watched-calm (a .args .s .now) _ _ _ _ _ (l .loop .inv) (processors-end _ _ _ _ _ _ (a .pre .0) _ (c .before .loop-test .left)) (c .if2 .taken)
 
 closer-requires : tie.Need-closer-requires Inv-loop μ-loop
 closer-requires c κs = let l = c .before .before .before in
-    let a = l .before .before .before .before .before .before .before .before .before .before in
+    let a = l .before .before .before .before .before .before .before .before in
     let x = l .loop .inv in
     (a .pre .0, a .pre .1, watched-long _ _ _ _ _ _ x (a .pre .2), no-cycle _ _ _ _ _ _ x (processors-end _ _ _ _ _ _ (a .pre .0) _ (c .before .before .loop-test .left)))
 
@@ -122,7 +122,7 @@ same-length-3 c = let k = c .before .before in
 returns-3 : tie.Need-returns-3 Inv-loop μ-loop
 returns-3 c = let k = c .before .before in
     let l = k .before .before .before .before in
-    let a = l .before .before .before .before .before .before .before .before .before .before in
+    let a = l .before .before .before .before .before .before .before .before in
     watched-closer (a .args .s .now) _ _ _ _ _ (l .loop .inv) (processors-end _ _ _ _ _ _ (a .pre .0) _ (k .before .before .before .loop-test .left)) (k .closer .last .1 .1 .1 .1 .1 .1 .1 .0) _ _ (k .closer .ensures)
 
 pub from-twentyfour-spec : {M : Type 1} → statement M

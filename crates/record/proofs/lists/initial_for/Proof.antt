@@ -8,7 +8,7 @@ use Rattle.form.specs.Form.{width}
 use Rattle.record.specs.Says.{executionOf}
 use Rattle.record.specs.Words.{InitialFor}
 use Rattle.record.proofs.Lengths.{small}
-use Rattle.record.proofs.Reading.{field-fits, entry-fit, field-small, entry-small, index-small, field-of, first-of, Owned, owned-tested, owned-for, for-owned}
+use Rattle.record.proofs.Reading.{field-fits, entry-fit, field-small, entry-small, index-small, field-of, first-of, owned-tested, owned-for, for-owned}
 use Rattle.record.proofs.lists.initial_for.Statement.{statement}
 use Rattle.record.proofs.lists.initial_for.Tie as tie
 

@@ -1,10 +1,10 @@
 use native.Mathlib.Omega.{arith}
 use lib.ListN.{length-set}
 use borrow.Author.Needs.{needs}
-use Rattle.order.proofs.Judgements.{given-next, given-none}
+use Rattle.order.proofs.Judgements.{given-next}
 use Rattle.record.specs.Says.{executionOf}
 use Rattle.record.proofs.Formings.{formed}
-use Rattle.replay.proofs.Judging.{programmed, shown-32, kept-32, all-steps, shown-33, kept-33}
+use Rattle.replay.proofs.Judging.{programmed, shown-32, kept-32}
 use Rattle.replay.proofs.replay.from_thirtytwo.Statement.{statement}
 use Rattle.replay.proofs.replay.from_thirtytwo.Tie as tie
 
@@ -60,27 +60,11 @@ returns c =
     let b = p .1 .1 in
     shown-32 (executionOf (a .args .s .now)) (a .args .list .now) _ h (c .before .before .before .if1 .taken) _ i _ (c .first .ensures) _ (a .args .ev .now) (omega arith)
 
-differing-requires : tie.Need-differing-requires
-differing-requires c κs =
+from-thirtythree-requires : tie.Need-from-thirtythree-requires
+from-thirtythree-requires c κs =
     let w = c .before .before .before .before .before .before in
     let p = w .before .before .before .before .before .before .before .before .before .before .pre in
-    let r = p .0 .0 in
-    ((r .right, r .laid .initials, r .placed, r .classed), (_, p .1 .0 .bytes, all-steps _ _ _ _ (p .1 .0) _ (r .laid .events)))
-
-num1-requires : tie.Need-num1-requires
-num1-requires c κs =
-    let w = c .before .before .before .before .before .before .before .before in
-    let p = w .before .before .before .before .before .before .before .before .before .before .pre in
-    let o = all-steps _ _ _ _ (p .1 .0) _ (p .0 .0 .laid .events) in
-    let f = p .1 .0 .bytes .fits in
-    let t = c .if2 .taken in
-    omega arith
-
-cast-ev-3 : tie.Need-cast-ev-3
-cast-ev-3 c = search needs
-
-slice-write-ev-3 : tie.Need-slice-write-ev-3
-slice-write-ev-3 c = search needs
+    (p .0 .0, (_, p .1 .0), p .1 .1)
 
 same-length-3 : tie.Need-same-length-3
 same-length-3 c = search needs
@@ -91,36 +75,16 @@ same-length-4 c = search needs
 returns-2 : tie.Need-returns-2
 returns-2 c =
     let d = c .before .before in
-    let v = d .before .before .before in
-    let w = v .before .before .before .before in
-    let a = w .before .before .before .before .before .before .before .before .before .before in
-    let p = a .pre in
-    let q = p .1 .0 in
-    let b = p .1 .1 in
-    let f = formed _ (p .0 .0 .right) in
-    let n = p .0 .0 .laid .events in
-    let h = v .reversed .ensures _ _ _ f (p .0 .3) (programmed _ _ _ (p .0 .2) (w .put-preserved .ensures)) q n in
-    let i = d .differing .ensures _ (q .bytes) (all-steps _ _ _ _ q _ n) in
-    given-next _ _ (a .args .ev .now) _ _ _ (kept-32 _ _ _ _ q f _ (d .before .before .if1 .left) h)
-    (shown-33 (executionOf (a .args .s .now)) _ _ _ q _ n _ i (c .before .if2 .taken) _ (c .num1 .ensures .0) _ (a .args .ev .now) (omega arith))
-
-same-length-5 : tie.Need-same-length-5
-same-length-5 c = search needs
-
-returns-3 : tie.Need-returns-3
-returns-3 c =
-    let d = c .before in
-    let v = d .before .before .before in
+    let e = d .before .before in
+    let v = e .before in
     let w = v .before .before .before .before in
     let a = w .before .before .before .before .before .before .before .before .before .before in
     let p = a .pre in
     let q = p .1 .0 in
     let f = formed _ (p .0 .0 .right) in
-    let n = p .0 .0 .laid .events in
-    let h = v .reversed .ensures _ _ _ f (p .0 .3) (programmed _ _ _ (p .0 .2) (w .put-preserved .ensures)) q n in
-    let i = d .differing .ensures _ (q .bytes) (all-steps _ _ _ _ q _ n) in
-    given-next _ _ (a .args .ev .now) _ _ _ (kept-32 _ _ _ _ q f _ (d .before .before .if1 .left) h)
-    (given-next _ _ _ _ _ _ (kept-33 (executionOf (a .args .s .now)) _ _ _ q _ n _ i (c .if2 .left)) (given-none _))
+    let g = programmed _ _ _ (p .0 .2) (w .put-preserved .ensures) in
+    let h = v .reversed .ensures _ _ _ f (p .0 .3) g q (p .0 .0 .laid .events) in
+    given-next _ _ (a .args .ev .now) _ _ _ (kept-32 _ _ _ _ q f _ (e .if1 .left) h) (d .from-thirtythree .ensures)
 
 pub from-thirtytwo-spec : {M : Type 1} → statement M
 from-thirtytwo-spec =
@@ -137,12 +101,7 @@ from-thirtytwo-spec =
     same-length
     same-length-2
     returns
-    differing-requires
-    num1-requires
-    cast-ev-3
-    slice-write-ev-3
+    from-thirtythree-requires
     same-length-3
     same-length-4
-    returns-2
-    same-length-5
-    returns-3)
+    returns-2)
