@@ -1,11 +1,9 @@
 -- Rules 27 and 31: the events that stand in a locked instruction that they are not of.
-use Prim.Native.Nat.{ℕ, _<_}
+use Prim.Native.Nat.{ℕ}
 use mathlib.Core.Path.{_≡_, sym, _∙_}
 use mathlib.Core.Logic.{⊎-elim}
 use mathlib.Core.Bool.{Bool, true, false}
 use mathlib.Core.List.{List}
-use native.Mathlib.Omega.{arith}
-use native.Mathlib.Decide.{decLt}
 use Rattle.order.specs.Decides.{Decides}
 use Rattle.order.specs.Least.{Some, Hit}
 use Rattle.order.specs.Rule.{Any}
@@ -19,6 +17,7 @@ use Rattle.record.specs.Words.{SameInstruction, OfLock}
 use Rattle.facts.specs.Facts.{Mated}
 use Rattle.model.specs.Model.{Locked, Before}
 use Rattle.model.specs.Rules.{BreaksUp}
+use Rattle.model.proofs.Lists.{before-trans}
 use Rattle.axioms.specs.Scene.{Lined}
 
 -- b is one of all, and one of others is not after b
@@ -34,13 +33,6 @@ split-tested t others all b row rest i j m g d =
     d
 
 module _ (z : Execution) (l : Items ℕ) (t : List ℕ) (all : Set) (v : Lined z l t all) where
-  then : (a x b : ℕ) → Before l a x → Before l x b → Before l a b
-  then a x b (j, lj, (i, li, (e, f))) (m, lm, (k, lk, (g, h))) = go (decLt k j)
-    where
-      go : Dec (k < j) → Before l a b
-      go (yes q) = absurd (v .once x (j, lj, (k, q, (g, f))))
-      go (no q) = (m, lm, (i, omega arith, (e, h)))
-
   -- what the numbers of the evidence have
   pub broken-locked : (a x b : ℕ) → BreaksUp z l a x b → Locked z a
   unfolding BreaksUp
@@ -147,7 +139,7 @@ module _ (z : Execution) (l : Items ℕ) (t : List ℕ) (all : Set) (v : Lined z
             let (sx, sb) = v .within x b before in (
               b,
               (
-                j .has b (behind b (then a x b after before), mate-in b sb same),
+                j .has b (behind b (before-trans l (v .once) a x b after before), mate-in b sb same),
                 (x, other-in x after other, λ r. v .opposite x b before (v .order b x sb sx .0 r)),
               ),
             )

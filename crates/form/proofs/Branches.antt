@@ -7,9 +7,8 @@ use mathlib.Core.Bool.{Bool, true, false}
 use mathlib.Core.Logic.{_≢_, _⊎_, inl, inr, ⊎-elim}
 use native.Mathlib.Omega.{arith}
 use native.Mathlib.Nat.{add-assoc, mul-le-mul, le-pred-of-lt}
-use lib.ListN.{length}
 use lib.Dec.{leb, eqb, lit≤}
-use borrow.Author.Tests.{lt-ltb, le-ltb, le-leb, lt-leb, eq-eqb, ne-eqb, leb-true, eqb-true, eqb-false}
+use borrow.Author.Tests.{lt-ltb, le-ltb, le-leb, lt-leb, eq-eqb, ne-eqb, eqb-true, eqb-false}
 use Rattle.form.specs.Bytes.{num}
 use Rattle.form.specs.Steps.{stop, run, upto}
 use Rattle.form.specs.Form.{due, width, limit, fieldsFrom, fields, eventFields, pairFields, lockFields, initialFields, oneField, placeRight, ownerRight, entry, entries, block, Section}
@@ -95,14 +94,6 @@ module _ (n k : ℕ) (s : List ℕ) (at : ℕ) where
   one-right h = simp (lt-ltb _ _ h)
 
 -- what is due is there
-pub due-next : (s : List ℕ) (k w at a : ℕ) → due s k w at ≡ Next a → (at + w ≤ length s) × (a ≡ at + w)
-unfolding due
-due-next s k w at a e = go (leb (at + w) (length s)) refl
-  where
-    go : (b : Bool) → leb (at + w) (length s) ≡ b → (at + w ≤ length s) × (a ≡ at + w)
-    go true q = let e′ = rw q at e in (leb-true _ _ q, (cc))
-    go false q = let e′ = rw q at e in let z : _≡_ {A = ℕ} 0 1 = cc in omega arith
-
 pub fits-at : (k n w at len : ℕ) → k ≡ n → width n ≡ w → at + width k ≤ len → at + w ≤ len
 fits-at k n w at len e f h = let g : width k ≡ w = cc in omega arith
 

@@ -7,9 +7,9 @@ use native.Mathlib.Omega.{arith}
 use lib.ListN.{length, take, drop, set, length-drop, drop-of-length-le}
 use lib.Seq.{take-all, drop-drop}
 use borrow.Rule.Slice.PartMut.{putMid, midOf, postOf, put-same}
-use Rattle.order.specs.Relation.{Rel, Cycle, Cyclic}
+use Rattle.order.specs.Relation.{Cyclic}
 use Rattle.order.specs.Evidence.{Written}
-use Rattle.order.proofs.Cycles.{cycle-within}
+use Rattle.order.proofs.Cycles.{cycle-within, cycle-some}
 use Rattle.order.proofs.Rules.{shown-first, round-cyclic, shown-as, cyclic-as}
 use Rattle.rows.specs.Table.{on}
 use Rattle.cycles.specs.Showing.{Showing}
@@ -51,10 +51,6 @@ module _ (ev ys : List ℕ) (h : 0 < length ev) where
   )
 
 -- a cycle has an event
-cycle-some : (R : Rel) (l : List ℕ) → Cycle R l → 0 < length l
-cycle-some R [] c = absurd c
-cycle-some R (a ∷ l) c = omega arith
-
 module _ (z : Execution) (f : Formed z) (p : ℕ) (h : p < z .processors) (t : List ℕ) (g : Arranged z p t) (n : ℕ) (e : n ≡ z .events .size)
     (ev ys : List ℕ) (k : ℕ) (long : 0 < length ev) (w : Showing (on n t) (midOf 1 (length ev - 1) ev) ys k) where
   pub cycle-none : k ≤ 0 → (Cyclic (OrderFor z p) → ⊥) × (putMid 1 (length ev - 1) ev ys ≡ ev)

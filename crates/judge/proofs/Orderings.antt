@@ -1,9 +1,8 @@
 -- What the rules about the orders suppose.
-use Prim.Native.Nat.{ℕ, _≤_}
-use mathlib.Core.Path.{_≡_}
+use Prim.Native.Nat.{ℕ}
 use mathlib.Core.List.{List}
 use native.Mathlib.Omega.{arith}
-use lib.ListN.{length, replicate}
+use lib.ListN.{replicate}
 use Rattle.order.specs.Rule.{Numbered}
 use Rattle.rows.specs.Table.{Adds}
 use Rattle.rows.proofs.Table.{zeros-rel}
@@ -15,9 +14,6 @@ use Rattle.axioms.specs.Scene.{Sources}
 
 pub sources-of : (z : Execution) (u : List ℕ) → Adds (replicate 64 0) u (Source z) → Sources z u
 sources-of z u d = record { rows = let e = d .same in omega arith; pairs = blank-adds _ u (Source z) (zeros-rel 64) d }
-
-pub given-long : (a b : List ℕ) → a ≡ b → 65 ≤ length b → 65 ≤ length a
-given-long a b e l = rw e l
 
 pub witness-numbered : (z : Execution) → Numbered (witnessRules z)
 witness-numbered z = (omega arith, (omega arith, (omega arith, (omega arith, tt))))

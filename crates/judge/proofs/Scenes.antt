@@ -5,41 +5,21 @@ use mathlib.Core.Logic.{_⊎_, _↔_, inl, inr, ⊎-elim}
 use mathlib.Core.List.{List, [], _∷_}
 use native.Mathlib.Omega.{arith}
 use native.Mathlib.Decide.{ℕ-discrete}
-use Rattle.order.specs.Relation.{Cyclic, Below}
+use Rattle.order.specs.Relation.{Cyclic}
 use Rattle.order.specs.Rule.{AllKept}
 use Rattle.rows.specs.Members.{In, Is}
 use Rattle.rows.specs.Table.{HasRows, rel, on, Adds}
 use Rattle.rows.specs.declared.Set.{Set}
 use Rattle.rows.proofs.Members.{dec-in}
-use Rattle.record.specs.Execution.{Items, Execution}
+use Rattle.record.specs.Execution.{Execution}
 use Rattle.record.specs.Formed.{Formed}
-use Rattle.record.specs.Words.{Causes}
 use Rattle.facts.specs.Facts.{Blank}
-use Rattle.model.specs.Model.{Before, Source, Sees, ViewOrder, HappensBefore, OrderFor}
+use Rattle.model.specs.Model.{Source, Sees, ViewOrder, HappensBefore, OrderFor}
 use Rattle.model.specs.Rules.{Stands, Misplaced, WrongView, WrongSource, witnessRules}
 use Rattle.axioms.specs.Scene.{Viewed, Paired}
+use Rattle.model.proofs.Bounds.{happens-low, order-low}
 use Rattle.model.proofs.Decisions.{certain, dec-stands, dec-pair}
 use Rattle.model.proofs.Lists.{before-ends, before-or, before-trans}
-
--- ---- every step is between events
-module _ (z : Execution) (f : Formed z) where
-  list-below : (l : Items ℕ) → ((i : ℕ) → i < l .size → l .item i < z .events .size) → Below (z .events .size) (Before l)
-  list-below l g a b (j, hj, (i, hi, (ea, eb))) = let x = g i (omega arith) in let y = g j hj in (omega arith, omega arith)
-
-  happens-below : Below (z .events .size) (HappensBefore z)
-  unfolding HappensBefore Causes Source
-  happens-below a b (inl (i, h, (ea, eb))) = let c = f .causes .each i h in let x = c .0 in let y = c .1 in (omega arith, omega arith)
-  happens-below a b (inr (inl q)) = (q .0, q .1)
-  happens-below a b (inr (inr (inl q))) = list-below (z .stores) (f .stores .each) a b (q .0)
-  happens-below a b (inr (inr (inr (inl (j, hj, (i, hi, (p, q))))))) = (p .0, q .0)
-  happens-below a b (inr (inr (inr (inr (i, h, (ea, eb)))))) = let c = f .sources .each i h in let x = c .0 in let y = c .1 in (omega arith, omega arith)
-
-  pub order-below : (p : ℕ) → p < z .processors → Below (z .events .size) (OrderFor z p)
-  order-below p h a b (inl v) = list-below (z .view p) (f .view p h .each) a b v
-  order-below p h a b (inr q) = happens-below a b q
-
-  pub happens-low : (a b : ℕ) → HappensBefore z a b → a < z .events .size
-  happens-low a b q = happens-below a b q .0
 
 -- ---- what the witness rules leave
 module _ (z : Execution) (k : AllKept (witnessRules z)) where
@@ -81,7 +61,7 @@ module _ (z : Execution) (p : ℕ) (h t u : List ℕ) (n : ℕ) (e : n ≡ z .ev
     rows = let s = d .same in omega arith;
     pairs = λ a b. (
       λ r. ⊎-elim (λ q. absurd (blank a b q)) (λ q. ⊎-elim (λ x. inr (before a b .0 (x .1))) (λ x. inl x) q) (d .pairs a b .0 r),
-      λ r. d .pairs a b .1 (inr (⊎-elim (λ x. inr x) (λ x. inl (let l = happens-low z f a b x in omega arith, before a b .1 x)) r)),
+      λ r. d .pairs a b .1 (inr (⊎-elim (λ x. inr x) (λ x. inl (let l = happens-low z f a b x .0 in omega arith, before a b .1 x)) r)),
     );
   }
 
@@ -90,7 +70,7 @@ module _ (z : Execution) (f : Formed z) (p : ℕ) (h : p < z .processors) (t : L
   rows-order a b r = g .pairs a b .0 (r .2)
 
   pub order-rows : (a b : ℕ) → OrderFor z p a b → on n t a b
-  order-rows a b r = let l = order-below z f p h a b r in let x = l .0 in let y = l .1 in (omega arith, omega arith, g .pairs a b .1 r)
+  order-rows a b r = let l = order-low z f p h a b r in let x = l .0 in let y = l .1 in (omega arith, omega arith, g .pairs a b .1 r)
 
   -- no cycle: among what p sees the table has the view order alone
   module _ (k : AllKept (witnessRules z)) (seen : Set) (i : Is seen (Sees z p)) (acyclic : Cyclic (OrderFor z p) → ⊥) where

@@ -11,6 +11,7 @@ use Rattle.order.proofs.Numbers.{last-or}
 use Rattle.order.proofs.Judgements.{rule-shown, given-next, given-none}
 use Rattle.record.specs.Execution.{Execution}
 use Rattle.model.specs.Rules.{rule24, Overwritten, WrongInitial, Torn}
+use Rattle.model.proofs.Breaks.{initial-own}
 use Rattle.judge.specs.Later.{laterRule, laterRules, QuietAt, ShownAt, RuledAt}
 
 -- the empty list does not break the rule, and the first number of a list that does is below n
@@ -61,14 +62,6 @@ module _ (z : Execution) where
   unfolding WrongInitial
   nil-26 h = h
 
-  low-26 : (p : ℕ) (w : List ℕ) → WrongInitial z (p ∷ w) → p < z .processors
-  unfolding WrongInitial
-  low-26 p [] h = absurd h
-  low-26 p (a ∷ []) h = absurd h
-  low-26 p (a ∷ b ∷ []) h = h .0 .0
-  low-26 p (a ∷ b ∷ c ∷ []) h = h .0 .0
-  low-26 p (a ∷ b ∷ c ∷ d ∷ w) h = absurd h
-
   low-27 : (p : ℕ) (w : List ℕ) → Of 4 (Torn z) (p ∷ w) → p < z .processors
   unfolding Torn
   low-27 p (a ∷ b ∷ c ∷ []) h = h .0
@@ -79,7 +72,7 @@ module _ (z : Execution) where
 
   pub opens-later : (i : ℕ) → Opens (z .processors) (laterRule z i)
   opens-later zero = record { nil = λ h. h; low = low-25 }
-  opens-later (suc zero) = record { nil = nil-26; low = low-26 }
+  opens-later (suc zero) = record { nil = nil-26; low = initial-own z }
   opens-later (suc (suc i)) = record { nil = λ h. h; low = low-27 }
 
   -- the judgement by the rules 25 to 27, the first of which, i of them, are kept

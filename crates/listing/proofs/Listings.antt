@@ -100,7 +100,7 @@ module _ (s b m : List ℕ) (a at : ℕ) (v : Told s b m a at) where
     listed-whole c z f =
         let (cs, e, g) = row-counts u n in
         let p = to-then b m c front (eventLines 0 cs) 0 at z (v .put) (f cs (sym e) g) in
-        let j = counts-of (executionOf s) t u cs filled (e ∙ size-is) (λ x l. g x (rw size-is l)) in
+        let j = counts-of (executionOf s) (formed s (ordered-right s a (v .e) (v .answers) o)) t u cs filled (e ∙ size-is) (λ x l. g x (rw size-is l)) in
         inr (
           v .long,
           (

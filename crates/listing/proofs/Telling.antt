@@ -10,7 +10,7 @@ use Rattle.order.specs.Least.{Counted}
 use Rattle.order.specs.Rule.{AllKept}
 use Rattle.order.specs.Evidence.{Written}
 use Rattle.order.proofs.Judgements.{Otherwise, judged-kept, zero-judged, given-unique}
-use Rattle.order.proofs.Numbers.{counted-as, counted-unique}
+use Rattle.order.proofs.Numbers.{counted-as, counted-unique, counted-low}
 use Rattle.rows.specs.Table.{rel}
 use Rattle.form.specs.Right.{Right}
 use Rattle.form.specs.Whole.{whole}
@@ -20,12 +20,14 @@ use Rattle.form.proofs.Answers.{stop-answer}
 use Rattle.form.proofs.Rights.{whole-well}
 use Rattle.record.specs.Execution.{Execution}
 use Rattle.record.specs.Says.{executionOf}
+use Rattle.record.specs.Formed.{Formed}
 use Rattle.record.proofs.Formings.{formed}
 use Rattle.structure.specs.Structure.{structureRules}
 use Rattle.structure.specs.Examined.{examinedBy, examination}
 use Rattle.structure.proofs.Examining.{examination-unique}
 use Rattle.model.specs.Model.{HappensBefore}
 use Rattle.model.specs.Rules.{witnessRules, orderRules, checkRules}
+use Rattle.model.proofs.Bounds.{happens-low}
 use Rattle.model.specs.Validity.{Answers}
 use Rattle.table.specs.Tabled.{Filled, tabledBy, Tabled}
 use Rattle.listing.specs.Listing.{verdict, eventLines, Counts, Ordered, Listing, Listed}
@@ -78,17 +80,19 @@ evidence-front e before after k lb la (n, w) =
 -- ---- how many events each happens directly before
 
 -- counts of the rows of a filled table
-pub counts-of : (z : Execution) (before after cs : List ℕ) → Filled z before after → length cs ≡ z .events .size
+pub counts-of : (z : Execution) → Formed z → (before after cs : List ℕ) → Filled z before after → length cs ≡ z .events .size
     → ((k : ℕ) → k < z .events .size → Counted 64 (rel after k) (getD cs k 0)) → Counts z cs
-counts-of z before after cs f e c = record {
+counts-of z form before after cs f e c = record {
   size = e;
-  each = λ k l. counted-as 64 (rel after k) (HappensBefore z k) (getD cs k 0) (λ i h. f .words k i l .0) (λ i h. f .words k i l .1) (c k l);
+  each = λ k l.
+      counted-low _ 64 (HappensBefore z k) (getD cs k 0) (λ i h. happens-low z form k i h .1) (form .events .within)
+      (counted-as 64 (rel after k) (HappensBefore z k) (getD cs k 0) (λ i h. f .words k i l .0) (λ i h. f .words k i l .1) (c k l));
 }
 
 counts-unique : (z : Execution) (cs ds : List ℕ) → Counts z cs → Counts z ds → cs ≡ ds
 counts-unique z cs ds p q =
     ext-getD 0 cs ds (p .size ∙ sym (q .size))
-    (λ i l. let h : i < z .events .size = rw (p .size) at l in counted-unique 64 (HappensBefore z i) (getD cs i 0) (getD ds i 0) (p .each i h) (q .each i h))
+    (λ i l. let h : i < z .events .size = rw (p .size) at l in counted-unique _ (HappensBefore z i) (getD cs i 0) (getD ds i 0) (p .each i h) (q .each i h))
 
 -- ---- one listing of each record
 

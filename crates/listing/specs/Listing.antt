@@ -24,7 +24,7 @@ eventLines e (c ∷ cs) = line event (e ∷ c ∷ []) ++ eventLines (suc e) cs
 -- how many events each event happens directly before
 pub record Counts (z : Execution) (cs : List ℕ) : Type 0 where
   pub size : length cs ≡ z .events .size
-  pub each : (e : ℕ) → e < z .events .size → Counted 64 (HappensBefore z e) (getD cs e 0)
+  pub each : (e : ℕ) → e < z .events .size → Counted (z .events .size) (HappensBefore z e) (getD cs e 0)
 
 -- the answer is 0 or 24 to 27
 abbrev pub Ordered : ℕ → Type 0

@@ -15,10 +15,11 @@ use Rattle.record.specs.declared.Event.{Event}
 use Rattle.structure.specs.Structure.{Joining, Unordered, Eventless, Repeated, structureRules}
 use Rattle.model.specs.Agree.{Alike, AgreeIn, Agree}
 use Rattle.model.specs.Model.{Store, Locked, KeepsOrder, Preserved, Before, StoreOrder, LockedOrder, Source, HappensBefore, Sees, OrderFor}
-use Rattle.model.specs.Rules.{Stands, Misplaced, WriteAndRead, WrongSource, WritesPlace, Overwritten, Unsourced, Initially, WrongInitial, BreaksUp, Torn, orderRules, checkRules}
+use Rattle.model.specs.Rules.{Misplaced, WriteAndRead, WrongSource, WritesPlace, Overwritten, Unsourced, Initially, WrongInitial, BreaksUp, Torn, orderRules, checkRules}
 use Rattle.model.specs.ViewAlone.{Broken, Names}
+use Rattle.model.proofs.Bounds.{before-low}
 use Rattle.model.proofs.Breaks.{kept-unbroken, unbroken-kept, order-names}
-use Rattle.model.proofs.Lists.{Proper, before-ends}
+use Rattle.model.proofs.Lists.{Proper}
 use Rattle.model.proofs.Serializations.{Stored, kept-stored, stored-kept, Queued, kept-queued, queued-kept}
 use Rattle.model.proofs.Views.{Viewed, kept-viewed, viewed-kept}
 
@@ -61,13 +62,6 @@ proper-alike D E l m t u g p =
       due = λ e q. t e (p .due e (some-alike m l b (λ a. a ≡ e) q));
       single = λ e q. p .single e (before-alike m l b e e q);
     }
-
--- where each item is below n, what stands in the list is
-before-low : (n : ℕ) (l : Items ℕ) → Each 64 (λ e. e < n) l → (a b : ℕ) → Before l a b → (a < n) × (b < n)
-before-low n l f a b q = let (s, t) = before-ends l a b q in (low a s, low b t)
-  where
-    low : (e : ℕ) → Stands l e → e < n
-    low e (i, h, d) = let k = f .each i h in rw d at k
 
 -- ---- the form, and the words of the rules
 
@@ -209,7 +203,7 @@ module _ {S : ℕ → Type 0} (x y : Execution) (g : AgreeIn S x y) (f : Formed 
 
       stores : StoreOrder x a b → StoreOrder y a b
       stores (o, s) =
-          let (ha, hb) = before-low _ _ (f .stores) a b o in
+          let (ha, hb) = before-low _ _ (f .stores .each) a b o in
           (before-alike _ _ (g .stores) a b o, rw (g .events .item a ha, g .events .item b hb) at s)
 
       of : (i e : ℕ) → i < x .locks .size → OfLock x i e → OfLock y i e
@@ -234,7 +228,7 @@ module _ {S : ℕ → Type 0} (x y : Execution) (g : AgreeIn S x y) (f : Formed 
     source-agree x y g w r s,
     (sees-agree x y g p w a, sees-agree x y g p r b),
     n,
-    place-agree e r (before-low _ _ (f .view p h) e r d .0) (b .0) q,
+    place-agree e r (before-low _ _ (f .view p h .each) e r d .0) (b .0) q,
     before-alike _ _ (g .view p v) w e c,
     before-alike _ _ (g .view p v) e r d,
   )
@@ -274,7 +268,7 @@ module _ {S : ℕ → Type 0} (x y : Execution) (g : AgreeIn S x y) (f : Formed 
   initial-agree p h (r ∷ code ∷ a ∷ []) (u, c, q, b) = (
     unsourced-agree p r u,
     c,
-    place-agree a r (before-low _ _ (f .view p (u .0)) a r b .0) (u .1 .0) q,
+    place-agree a r (before-low _ _ (f .view p (u .0) .each) a r b .0) (u .1 .0) q,
     before-alike _ _ (g .view p h) a r b,
   )
   initial-agree p h (r ∷ code ∷ a ∷ b ∷ w) q = q
@@ -283,8 +277,8 @@ module _ {S : ℕ → Type 0} (x y : Execution) (g : AgreeIn S x y) (f : Formed 
   torn-agree : (p : ℕ) → S p → (a e b : ℕ) → Torn x p a e b → Torn y p a e b
   unfolding Torn BreaksUp
   torn-agree p v a e b (h, (l, s, n, c, d)) =
-      let (ha, he) = before-low _ _ (f .view p h) a e c in
-      let hb = before-low _ _ (f .view p h) e b d .1 in (
+      let (ha, he) = before-low _ _ (f .view p h .each) a e c in
+      let hb = before-low _ _ (f .view p h .each) e b d .1 in (
         rw (g .processors) at h,
         (
           locked-agree a ha l,

@@ -29,7 +29,7 @@ unbroken-kept (q ∷ qs) f = (λ w b. f (q .number) w (q .shown w) (inl (refl, b
 -- ---- the rules 24 to 27
 
 module _ (z : Execution) where
-  initial-own : (p : ℕ) (w : List ℕ) → WrongInitial z (p ∷ w) → p < z .processors
+  pub initial-own : (p : ℕ) (w : List ℕ) → WrongInitial z (p ∷ w) → p < z .processors
   unfolding WrongInitial
   initial-own p [] q = absurd q
   initial-own p (r ∷ []) q = absurd q

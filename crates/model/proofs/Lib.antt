@@ -1,4 +1,5 @@
 pub mod Agreeing
+pub mod Bounds
 pub mod Breaks
 pub mod Cycles
 pub mod Decisions

@@ -18,6 +18,7 @@ use Rattle.model.specs.Hol.{PER, wfes}
 use Rattle.model.specs.Model.{Writes}
 use Rattle.model.specs.Says.{structureOf}
 use Rattle.order.proofs.Rules.{cycle-kept, kept-cycle}
+use Rattle.model.proofs.Bounds.{causes-low}
 use Rattle.model.proofs.Cycles.{acyclic-not, not-acyclic}
 use Rattle.model.proofs.Decisions.{certain, below-or, dec-instruction}
 use Rattle.model.proofs.Words.{writes-is, register-is, instruction-is, location-register}
@@ -34,11 +35,7 @@ module _ (z : Execution) (f : Formed z) (k : AllKept (structureRules z)) where
   unfolding Causes
   dec-causes a b = dec-some _ (λ i. Dec·and (ℕ-discrete _ _) (ℕ-discrete _ _)) _
 
-  causes-low : (a b : ℕ) → Causes z a b → (a < z .events .size) × (b < z .events .size)
-  unfolding Causes
-  causes-low a b (i, h, (d, e)) = let q = f .causes .each i h in rw (d, e) at q
-
-  causes-one : (a b : ℕ) → Causes z a b → SameInstruction (z .events .item a) (z .events .item b)
+  pub causes-one : (a b : ℕ) → Causes z a b → SameInstruction (z .events .item a) (z .events .item b)
   unfolding Causes Joining
   causes-one a b (i, h, (d, e)) = certain (dec-instruction (z .events .item a) (z .events .item b)) (λ g. k .0 (i ∷ []) (h, λ q. g (rw (d, e) at q)))
 
@@ -98,8 +95,8 @@ module _ (z : Execution) (f : Formed z) (k : AllKept (structureRules z)) where
     processors = (z .processors, λ p h. h);
     owned = λ e h. f .events .each e h .own;
     told-apart = λ a b h g d e. d;
-    domain = λ a b q. causes-low a b q .0;
-    range = λ a b q. causes-low a b q .1;
+    domain = λ a b q. causes-low z f a b q .0;
+    range = λ a b q. causes-low z f a b q .1;
     acyclic-causality = not-acyclic _ (kept-cycle _ 11 (k .1 .0));
     one-instruction = λ a b q. instruction-is z f a b .1 (causes-one a b q);
     registers = λ a b w n o i r.

@@ -19,6 +19,10 @@ abbrev pub Greedy : Rel → ℕ → ℕ → List ℕ → Type 0
 Greedy R s v [] = R v s
 Greedy R s v (c ∷ m) = Least (λ x. R v x × Walk R (suc (length m)) x s) c × Greedy R s c m
 
+pub cycle-some : (R : Rel) (l : List ℕ) → Cycle R l → 0 < length l
+cycle-some R [] c = absurd c
+cycle-some R (a ∷ l) c = omega arith
+
 mem-split : (l : List ℕ) (x : ℕ) → List·Memᴰ x l → (p : List ℕ) × (q : List ℕ) × (l ≡ p ++ x ∷ q)
 mem-split [] x h = absurd (List·Memᴰ·not-nil h)
 mem-split (a ∷ l) x h = go (mem-split l x) (List·Memᴰ·cases-cons h)

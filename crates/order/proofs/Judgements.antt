@@ -1,5 +1,5 @@
 -- The judgement of a list of rules: two that it allows are one, it is 0 exactly if every rule is kept, and it is made rule after rule.
-use Prim.Native.Nat.{ℕ, _<_}
+use Prim.Native.Nat.{ℕ, _<_, _≤_}
 use mathlib.Core.Path.{_≡_, refl, sym, ap, ap₂, _∙_, subst}
 use mathlib.Core.Logic.{inl, inr}
 use mathlib.Core.List.{List, [], _∷_, _++_}
@@ -95,6 +95,10 @@ given-unique J u before x y a b k l (d, p, (kd, xd)) (e, q, (le, ye)) =
 written-none : (e b a : List ℕ) (k : ℕ) → e ≡ [] → Written e b a k → a ≡ b
 written-none [] b a k q (x, y) = y ∙ ap (λ (j : ℕ). drop j b) x
 written-none (n ∷ e) b a k q w = let l : length (n ∷ e) ≡ 0 = ap length q in absurd (omega arith)
+
+-- a buffer that is as it was has room as before
+pub long-from : (b c : List ℕ) → c ≡ b → 65 ≤ length b → 65 ≤ length c
+long-from b c e h = rw e h
 
 -- ---- rules after others
 module _ (qs rs : List Rule) (b a : List ℕ) where

@@ -1,5 +1,5 @@
 -- Numbers: a search below a bound decides, least numbers, and the pigeonhole principle.
-use Prim.Native.Nat.{ℕ, zero, suc, _<_}
+use Prim.Native.Nat.{ℕ, zero, suc, _<_, _≤_}
 use mathlib.Core.Path.{_≡_, refl, sym, _∙_}
 use mathlib.Core.Logic.{_⊎_, inl, inr, ⊎-elim}
 use native.Mathlib.Omega.{arith}
@@ -114,3 +114,14 @@ counted-some (suc n) P d = go (d n) (counted-some n P d)
     go : Dec (P n) → (r : ℕ) × Counted n P r → (r : ℕ) × Counted (suc n) P r
     go (yes p) (r, c) = (suc r, inl (p, (r, refl, c)))
     go (no g) (r, c) = (r, inr (g, c))
+
+-- what only numbers below n have is counted below n
+pub counted-low : (n m : ℕ) (P : ℕ → Type 0) (r : ℕ) → ((k : ℕ) → P k → k < n) → n ≤ m → Counted m P r → Counted n P r
+unfolding Counted
+counted-low n zero P r f h c = let e : n ≡ 0 = omega arith in rw e c
+counted-low n (suc m) P r f h c = go (counted-low n m P r f) (decLt n (suc m)) c
+  where
+    go : (n ≤ m → Counted m P r → Counted n P r) → Dec (n < suc m) → Counted (suc m) P r → Counted n P r
+    go rest (yes l) (inl (p, q)) = let g = f m p in absurd (omega arith)
+    go rest (yes l) (inr (g, d)) = rest (omega arith) d
+    go rest (no l) d = let e : n ≡ suc m = omega arith in rw e d

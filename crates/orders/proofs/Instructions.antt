@@ -30,6 +30,15 @@ steps-is q a later always row either both r e i = is-as both _ _
 abbrev pub Held : (here locked memory held : Set) → Type 0
 Held here locked memory held = Is held (λ k. Meet here locked × In memory k)
 
+-- a memory event is a load or a store
+pub memory-classed : (z : Execution) (c : Classes) → Classed z c → (b : ℕ) → b < z .events .size → Memory (z .events .item b)
+    → In (c .loads) b ⊎ In (c .stores) b
+memory-classed z c d b l h = go (ℕ-discrete (z .events .item b .kind) 0)
+  where
+    go : Dec (z .events .item b .kind ≡ 0) → In (c .loads) b ⊎ In (c .stores) b
+    go (yes e) = inl (d .loads .has b (l, e))
+    go (no g) = inr (d .stores .has b (l, omega arith))
+
 pub held-all : (here locked memory : Set) → Meet here locked → Held here locked memory memory
 held-all here locked memory m = record { says = λ k i. (m, i); has = λ k i. i .1 }
 
@@ -39,11 +48,7 @@ held-none here locked memory none g i = record { says = λ k h. absurd (i .says 
 module _ (z : Execution) (q : List ℕ) (c : Classes) (here later : Set) (pq : Placed z q) (pc : Classed z c) (ph : Program z here) (pl : Program z later)
     (one : OneInstruction z here) (memory held : Set) (im : Is memory (λ k. In (c .loads) k ⊎ In (c .stores) k)) (ih : Held here (c .locked) memory held) where
   memory-in : (b : ℕ) → b < z .events .size → Memory (z .events .item b) → In memory b
-  memory-in b l h = im .has b (go (ℕ-discrete (z .events .item b .kind) 0))
-    where
-      go : Dec (z .events .item b .kind ≡ 0) → In (c .loads) b ⊎ In (c .stores) b
-      go (yes e) = inl (pc .loads .has b (l, e))
-      go (no g) = inr (pc .stores .has b (l, omega arith))
+  memory-in b l h = im .has b (memory-classed z c pc b l h)
 
   in-memory : (b : ℕ) → In memory b → Memory (z .events .item b)
   in-memory b h =

@@ -4,7 +4,6 @@ use mathlib.Core.Path.{_≡_, subst}
 use mathlib.Core.Logic.{_⊎_, inl, inr, ⊎-elim}
 use mathlib.Core.List.{List}
 use native.Mathlib.Omega.{arith}
-use native.Mathlib.Decide.{ℕ-discrete}
 use Rattle.rows.specs.Members.{In, Is}
 use Rattle.rows.specs.Table.{rel, Adds}
 use Rattle.rows.specs.declared.Set.{Set}
@@ -16,7 +15,9 @@ use Rattle.facts.specs.Facts.{Placed, Entered, Classed}
 use Rattle.facts.specs.declared.Classes.{Classes}
 use Rattle.model.specs.Model.{Before, Preserved, StoreOrder, LockedOrder, Source, HappensBefore}
 use Rattle.structure.specs.Held.{Held}
+use Rattle.model.proofs.Bounds.{before-low}
 use Rattle.orders.specs.Groups.{BeforeIn, Happens}
+use Rattle.orders.proofs.Instructions.{memory-classed}
 
 module _ (z : Execution) (f : Formed z) where
   -- the part of section 6's order that is at one place and leads to memory is store order
@@ -35,14 +36,10 @@ module _ (z : Execution) (f : Formed z) where
         go (inr s) h = let g = s .1 .0 in absurd (omega arith)
 
     stores-has : (a b : ℕ) → StoreOrder z a b → Before (z .stores) a b × (rel q a b × In memory b)
-    stores-has a b (o, s) = (o, (p .pairs a b .1 (ends .0, ends .1, inl s), u .has b (go (ℕ-discrete (z .events .item b .kind) 0))))
+    stores-has a b (o, s) = (o, (p .pairs a b .1 (ends .0, ends .1, inl s), u .has b (memory-classed z c d b (ends .1) (s .1 .0))))
       where
         ends : (a < z .events .size) × (b < z .events .size)
-        ends = let (j, hj, (i, hi, (ea, eb))) = o in let x = f .stores .each i (omega arith) in let y = f .stores .each j hj in (omega arith, omega arith)
-
-        go : Dec (z .events .item b .kind ≡ 0) → In (c .loads) b ⊎ In (c .stores) b
-        go (yes e) = inl (d .loads .has b (ends .1, e))
-        go (no g) = let m = s .1 .0 in inr (d .stores .has b (ends .1, omega arith))
+        ends = before-low _ (z .stores) (f .stores .each) a b o
 
     pub stores-adds : (l : Items ℕ) → l ≡ z .stores → (t v : List ℕ) → Adds t v (λ a b. Before l a b × (rel q a b × In memory b)) → Adds t v (StoreOrder z)
     stores-adds l e t v a =

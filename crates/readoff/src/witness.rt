@@ -1,4 +1,4 @@
-// Sections 6 to 9 of the read-off. Each is written at a place, its count last, and its end handed back. The numbers of the list are the
+// Sections 6 to 9 of the read-off. Each is written at a place, its count last but that of section 9, and its end handed back. The numbers of the list are the
 // first n bytes of b.
 ghost use Prim.Native.Nat.{ℕ, _+_, _*_, _≤_, _<_};
 ghost use mathlib.Core.Path.{_≡_};

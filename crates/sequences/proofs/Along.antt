@@ -10,10 +10,11 @@ use Rattle.order.proofs.Rules.{cycles-kept, kept-cycles, cyclic-as}
 use Rattle.record.specs.Execution.{Execution}
 use Rattle.record.specs.Formed.{Formed}
 use Rattle.record.specs.Words.{Causes}
-use Rattle.structure.specs.Structure.{Joining, Eventless, Repeated, structureRules}
+use Rattle.structure.specs.Structure.{Eventless, Repeated, structureRules}
 use Rattle.model.specs.Model.{Locked, KeepsOrder, Preserved, Before, StoreOrder, Source, HappensBefore, ViewOrder, OrderFor}
-use Rattle.model.proofs.Decisions.{certain, dec-instruction}
+use Rattle.model.proofs.Bounds.{causes-low}
 use Rattle.model.proofs.Lists.{Proper, before-or, before-trans}
+use Rattle.model.proofs.Structures.{causes-one}
 use Rattle.sequences.specs.Sequence.{steps, BrokenUp, Reversed}
 use Rattle.sequences.specs.ReadOff.{event, readOff}
 use Rattle.sequences.proofs.Locking.{locked-along}
@@ -60,20 +61,12 @@ module _ (z : Execution) (l : List ℕ) where
       pub differ : a ≡ b → ⊥
       pub processor : event z a .processor ≡ event z b .processor
 
-    cause-low : (a b : ℕ) → Causes z a b → (a < z .events .size) × (b < z .events .size)
-    unfolding Causes
-    cause-low a b (i, h, (d, e)) = let q = f .causes .each i h in rw (d, e) at q
-
-    cause-same : (a b : ℕ) → Causes z a b → event z a .processor ≡ event z b .processor
-    unfolding Causes Joining
-    cause-same a b (i, h, (d, e)) = certain (dec-instruction (event z a) (event z b)) (λ g. s .0 (i ∷ []) (h, λ q. g (rw (d, e) at q))) .0
-
     pub given-apart : (a b : ℕ) → Given z a b → Apart a b
     given-apart a b (inl q) = record {
-      from = cause-low a b q .0;
-      to = cause-low a b q .1;
+      from = causes-low z f a b q .0;
+      to = causes-low z f a b q .1;
       differ = λ e. s .1 .0 (1 ∷ b ∷ []) (refl, rw e at q, tt);
-      processor = cause-same a b q;
+      processor = causes-one z f s a b q .0;
     }
     given-apart a b (inr (h, g, ((p, o), c))) = record {
       from = h;

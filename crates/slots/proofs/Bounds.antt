@@ -1,60 +1,15 @@
 -- What breaks a rule of a formed execution is below the rule's bounds.
 use Prim.Native.Nat.{ℕ, zero, suc, _<_, max}
-use mathlib.Core.Logic.{inl, inr}
 use mathlib.Core.List.{List, [], _∷_}
 use native.Mathlib.Omega.{arith}
 use lib.ListN.{length, getD}
-use Rattle.order.specs.Relation.{Below}
-use Rattle.record.specs.Execution.{Items, Execution}
+use Rattle.record.specs.Execution.{Execution}
 use Rattle.record.specs.Formed.{Formed}
-use Rattle.record.specs.Words.{Causes}
 use Rattle.structure.specs.Structure.{Joining, Unordered, Eventless, Repeated}
-use Rattle.model.specs.Model.{Before, Source, HappensBefore, OrderFor}
-use Rattle.model.specs.Rules.{Stands, Misplaced, WrongView, WrongStore, WrongLock, WrongSource, Overwritten, BreaksUp, Torn}
-use Rattle.model.proofs.Lists.{before-ends}
+use Rattle.model.specs.Rules.{WrongView, WrongStore, WrongLock, WrongSource, Overwritten, BreaksUp, Torn}
+use Rattle.model.proofs.Bounds.{before-low, misplaced-low, view-low}
 use Rattle.sequences.specs.Sequence.{steps, TooLarge, WrongEvent, BrokenUp, Reversed, Differs}
 use Rattle.slots.proofs.Searching.{Low}
-
--- ---- lists of numbers below n
-
-module _ (n : ℕ) (l : Items ℕ) (each : (i : ℕ) → i < l .size → l .item i < n) where
-  stands-low : (e : ℕ) → Stands l e → e < n
-  stands-low e (i, h, q) = rw q at (each i h)
-
-  before-low : (a b : ℕ) → Before l a b → (a < n) × (b < n)
-  before-low a b q = let (u, v) = before-ends l a b q in (stands-low a u, stands-low b v)
-
-  misplaced-low : (Due : Type 0) (e : ℕ) → (Due → e < n) → Misplaced Due l e → e < n
-  unfolding Misplaced
-  misplaced-low Due e d (inl q) = d (q .0)
-  misplaced-low Due e d (inr (inl q)) = stands-low e (q .1)
-  misplaced-low Due e d (inr (inr q)) = before-low e e q .0
-
--- ---- the relations are between events
-
-module _ (z : Execution) (f : Formed z) where
-  pub causes-low : Below (z .events .size) (Causes z)
-  unfolding Causes
-  causes-low a b (i, h, (d, e)) = let q = f .causes .each i h in rw (d, e) at q
-
-  source-low : Below (z .events .size) (Source z)
-  unfolding Source
-  source-low a b (i, h, (d, e)) = let q = f .sources .each i h in rw (d, e) at q
-
-  happens-low : Below (z .events .size) (HappensBefore z)
-  unfolding HappensBefore
-  happens-low a b (inl q) = causes-low a b q
-  happens-low a b (inr (inl q)) = (q .0, q .1)
-  happens-low a b (inr (inr (inl q))) = before-low (z .events .size) (z .stores) (f .stores .each) a b (q .0)
-  happens-low a b (inr (inr (inr (inl (j, h, (i, g, q)))))) = (q .0 .0, q .1 .0)
-  happens-low a b (inr (inr (inr (inr q)))) = source-low a b q
-
-  pub view-low : (p : ℕ) → p < z .processors → (a b : ℕ) → Before (z .view p) a b → (a < z .events .size) × (b < z .events .size)
-  view-low p h = before-low (z .events .size) (z .view p) (f .view p h .each)
-
-  pub order-low : (p : ℕ) → p < z .processors → Below (z .events .size) (OrderFor z p)
-  order-low p h a b (inl q) = view-low p h a b q
-  order-low p h a b (inr q) = happens-low a b q
 
 -- ---- what breaks a rule is below its bounds
 

@@ -10,7 +10,7 @@ use Rattle.slots.proofs.Tested.{Tested, equal, both, four, either}
 use Rattle.slots.proofs.Tests.{event, before, writesPlace, unsourced, noInitial, otherwise}
 use Rattle.slots.proofs.Searching.{Search, stop, more, Fits}
 use Rattle.slots.proofs.Judging.{Searched}
-use Rattle.slots.proofs.Bounds.{view-low}
+use Rattle.model.proofs.Bounds.{view-low}
 
 module _ (z : Execution) where
   unfoldable pub wrongValue : (p r c : ℕ) → Tested (WrongInitial z (p ∷ r ∷ c ∷ []))

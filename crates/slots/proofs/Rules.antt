@@ -13,7 +13,8 @@ use Rattle.sequences.specs.Sequence.{steps, TooLarge, WrongEvent, BrokenUp, Rev
 use Rattle.slots.specs.Slots.{Operation, Check, Replay, rulesOf}
 use Rattle.slots.proofs.Tested.{equal, never}
 use Rattle.slots.proofs.Tests.{causes, joining, unordered, eventless, repeated, orderFor, wrongView, wrongStore, wrongLock, wrongSource, overwritten, breaksUp, torn, tooLarge, wrongEvent, reversed, differs}
-use Rattle.slots.proofs.Bounds.{causes-low, order-low, joining-low, unordered-low, eventless-low, repeated-low, wrong-view-low, wrong-store-low, wrong-lock-low, wrong-source-low, overwritten-low, torn-low, top, too-large-low, wrong-event-low, broken-low, reversed-low, differs-low}
+use Rattle.model.proofs.Bounds.{causes-low, order-low}
+use Rattle.slots.proofs.Bounds.{joining-low, unordered-low, eventless-low, repeated-low, wrong-view-low, wrong-store-low, wrong-lock-low, wrong-source-low, overwritten-low, torn-low, top, too-large-low, wrong-event-low, broken-low, reversed-low, differs-low}
 use Rattle.slots.proofs.Initials.{initial}
 use Rattle.slots.proofs.Judging.{AllSearched, _also_, joined, tuples, cycle, cycles}
 

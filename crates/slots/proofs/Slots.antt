@@ -4,7 +4,7 @@ use mathlib.Core.Path.{_≡_, refl, ap₂, subst₂}
 use mathlib.Core.Bool.{Bool, true, false, _&&_, false≢true}
 use mathlib.Core.List.{List, [], _∷_, _++_}
 use lib.Dec.{eqb}
-use Rattle.order.proofs.Tests.{by-and, by-eq, by-flag}
+use Rattle.order.proofs.Tests.{by-eq}
 use Rattle.form.specs.Bytes.{num}
 use Rattle.form.specs.Steps.{run, upto}
 use Rattle.form.specs.Form.{width, limit, due, placeRight, ownerRight, eventFields, pairFields, lockFields, initialFields, oneField, fields, entry, entries, block, sections, views}
@@ -13,6 +13,7 @@ use Rattle.form.specs.Whole.{head, tail, body, whole}
 use Rattle.form.specs.declared.Step.{Step}
 use Rattle.form.specs.declared.Step.the-variants.{Next, Stop}
 use Rattle.form.proofs.Rights.{whole-well}
+use Rattle.form.proofs.Flags.{both}
 use Rattle.record.specs.Execution.{Execution}
 use Rattle.record.specs.Formed.{Formed}
 use Rattle.record.specs.Says.{executionOf}
@@ -65,19 +66,16 @@ unfoldable pub allStated : List Case → Bool
 allStated [] = true
 allStated (c ∷ l) = states c (computed (c .bytes) (c .operation)) && allStated l
 
-both-true : (a b : Bool) → (a && b) ≡ true → (a ≡ true) × (b ≡ true)
-both-true a b = by-and a b (by-flag a) (by-flag b) .holds
-
 alike-same : (l m : List ℕ) → alike l m ≡ true → l ≡ m
 alike-same [] [] h = refl
 alike-same [] (b ∷ m) h = absurd (false≢true h)
 alike-same (a ∷ l) [] h = absurd (false≢true h)
-alike-same (a ∷ l) (b ∷ m) h = let (e, r) = both-true (eqb a b) (alike l m) h in ap₂ _∷_ (by-eq a b .holds e) (alike-same l m r)
+alike-same (a ∷ l) (b ∷ m) h = let (e, r) = both (eqb a b) (alike l m) h in ap₂ _∷_ (by-eq a b .holds e) (alike-same l m r)
 
 right : (c : Case) → states c (computed (c .bytes) (c .operation)) ≡ true → Right c
 right c h =
     let v = computed (c .bytes) (c .operation) in
-    let (a, e) = both-true (eqb (v .answer) (c .answer)) (alike (v .evidence) (c .evidence)) h in
+    let (a, e) = both (eqb (v .answer) (c .answer)) (alike (v .evidence) (c .evidence)) h in
     subst₂ (examination (c .bytes) (rulesOf (c .operation) (executionOf (c .bytes))))
     (by-eq (v .answer) (c .answer) .holds a)
     (alike-same (v .evidence) (c .evidence) e)
@@ -87,7 +85,7 @@ all-right : (l : List Case) → allStated l ≡ true → AllRight l
 unfolding allStated
 all-right [] h = tt
 all-right (c ∷ l) h =
-    let (a, r) = both-true (states c (computed (c .bytes) (c .operation))) (allStated l) h in (right c a, all-right l r)
+    let (a, r) = both (states c (computed (c .bytes) (c .operation))) (allStated l) h in (right c a, all-right l r)
 
 all-stated : allStated slotCases ≡ true
 unfolding num run upto width limit due placeRight ownerRight eventFields pairFields lockFields initialFields oneField fields entry entries block sections views start count counts entryAt viewStart head tail body whole any misplaced causes joining unordered eventless repeated locked keepsOrder source happensBefore wrongView wrongStore wrongLock wrongSource overwritten breaksUp torn tooLarge wrongEvent reversed differs tuple round top initials verdict computed allStated

@@ -2,14 +2,14 @@
 use Prim.Native.Nat.{ℕ, _<_, _≤_}
 use mathlib.Core.Path.{_≡_, refl}
 use mathlib.Core.Logic.{_⊎_, inl, inr, ⊎-elim}
-use mathlib.Core.List.{List, [], _∷_}
+use mathlib.Core.List.{List, _∷_}
 use native.Mathlib.Omega.{arith}
 use native.Mathlib.Decide.{ℕ-discrete}
 use lib.ListN.{length}
 use Rattle.order.specs.Least.{None, Hit}
-use Rattle.order.specs.Relation.{Rel, Cycle}
 use Rattle.order.specs.Rule.{Rule, Kept, Judged, Any, rule, entryRule, cycleRule}
 use Rattle.order.specs.Evidence.{Given}
+use Rattle.order.proofs.Cycles.{cycle-some}
 use Rattle.order.proofs.Searches.{one-kept, two-kept}
 use Rattle.order.proofs.Rules.{cycle-kept, cycle-shown, cyclic-as, shown-as}
 use Rattle.rows.specs.Table.{HasRows, on, Adds}
@@ -33,10 +33,6 @@ use Rattle.record.proofs.Formings.{formed}
 use Rattle.structure.proofs.Partners.{firsts-begin}
 
 -- a cycle has an event
-cycle-some : (R : Rel) (l : List ℕ) → Cycle R l → 0 < length l
-cycle-some R [] c = absurd c
-cycle-some R (a ∷ l) c = omega arith
-
 -- no entry breaks rule 13 or 14
 module _ (x : Execution) (g i : ℕ) (e : g ≡ x .locks .size) (l : g ≤ i) where
   pub kept-14 : Hit g (Repeated x) i → Kept (rule 14 1 (Repeated x))

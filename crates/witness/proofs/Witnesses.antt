@@ -192,5 +192,3 @@ pub processors-past : (s : List ℕ) (l : Layout) → Laid s l → (p : ℕ) →
 processors-past s l d p h = let e = d .processors in omega arith
 
 -- a buffer that was left untouched
-pub long-from : (b c : List ℕ) → c ≡ b → 65 ≤ length b → 65 ≤ length c
-long-from b c e h = rw e h

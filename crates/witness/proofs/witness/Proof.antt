@@ -6,14 +6,14 @@ use borrow.Author.Needs.{needs}
 use Rattle.order.specs.Least.{None}
 use Rattle.order.specs.Rule.{Any}
 use Rattle.order.proofs.Searches.{none-yet}
-use Rattle.order.proofs.Judgements.{given-next}
+use Rattle.order.proofs.Judgements.{long-from, given-next}
 use Rattle.form.specs.Place.{viewStart}
 use Rattle.record.specs.Says.{executionOf}
 use Rattle.record.proofs.Formings.{formed}
 use Rattle.record.proofs.Lengths.{small}
 use Rattle.structure.proofs.Judging.{given-from}
 use Rattle.model.specs.Rules.{WrongView}
-use Rattle.witness.proofs.Witnesses.{view-ready, view-hit, view-after, views-next, views-found, kept-20, processor-here, processors-past, long-from}
+use Rattle.witness.proofs.Witnesses.{view-ready, view-hit, view-after, views-next, views-found, kept-20, processor-here, processors-past}
 use Rattle.witness.proofs.witness.Statement.{statement}
 use Rattle.witness.proofs.witness.Tie as tie
 

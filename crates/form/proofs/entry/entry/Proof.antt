@@ -2,7 +2,8 @@ use mathlib.Core.Path.{_≡_}
 use denote.Ref.{now}
 use Rattle.form.specs.Form.{due, width}
 use Rattle.form.specs.declared.Step.the-variants.{Next}
-use Rattle.form.proofs.Branches.{due-next, entry-stop, entry-next}
+use Rattle.form.proofs.Branches.{entry-stop, entry-next}
+use Rattle.form.proofs.Rights.{due-well}
 use borrow.Author.Needs.{needs}
 use Rattle.form.proofs.entry.entry.Statement.{statement}
 use Rattle.form.proofs.entry.entry.Tie as tie
@@ -23,7 +24,7 @@ fields-requires : tie.Need-fields-requires
 fields-requires c κs =
     let a = c .before .before .before .before .before .args in
     let d : due (now (a .s)) (a .k) (width (a .k)) (a .at) ≡ Next (c .enum-told .given .0 .0) = cc in
-    (c .before .before .before .before .before .pre, due-next _ _ _ _ _ d .0)
+    (c .before .before .before .before .before .pre, due-well _ _ _ _ _ d .0)
 
 returns : tie.Need-returns
 returns c = entry-stop _ _ _ _ _ (cc)

@@ -1,12 +1,11 @@
 use native.Mathlib.Omega.{arith}
 use borrow.Author.Needs.{needs}
 use Rattle.rows.proofs.Table.{zeros-rel}
-use Rattle.order.proofs.Judgements.{given-stop, given-same, given-on}
+use Rattle.order.proofs.Judgements.{long-from, given-stop, given-same, given-on}
 use Rattle.record.specs.Says.{executionOf}
 use Rattle.structure.specs.Structure.{structureRules}
 use Rattle.structure.proofs.Passing.{structure-numbered}
 use Rattle.model.specs.Rules.{checkRules}
-use Rattle.judge.proofs.Orderings.{given-long}
 use Rattle.judge.proofs.check.from_ten.Statement.{statement}
 use Rattle.judge.proofs.check.from_ten.Tie as tie
 
@@ -66,7 +65,7 @@ from-twenty-requires c κs = let d = c .before .before .before .before .before i
     let z = executionOf (a .args .s .now) in
     let e = d .if1 .left in
     let same = given-same (structureRules z) (checkRules z) (a .args .ev .now) _ (structure-numbered z) _ _ e (u .structure .ensures .1) in
-    (h .gather .ensures, u .structure .ensures .0 e, given-long _ _ same (a .pre .2))
+    (h .gather .ensures, u .structure .ensures .0 e, long-from _ _ same (a .pre .2))
 
 same-length-2 : tie.Need-same-length-2
 same-length-2 c = search needs

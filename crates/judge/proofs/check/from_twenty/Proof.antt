@@ -1,8 +1,8 @@
 use borrow.Author.Needs.{needs}
-use Rattle.order.proofs.Judgements.{given-stop, given-kept, given-same, given-on}
+use Rattle.order.proofs.Judgements.{long-from, given-stop, given-kept, given-same, given-on}
 use Rattle.model.specs.Rules.{witnessRules, orderRules}
 use Rattle.record.specs.Says.{executionOf}
-use Rattle.judge.proofs.Orderings.{given-long, witness-numbered}
+use Rattle.judge.proofs.Orderings.{witness-numbered}
 use Rattle.judge.proofs.check.from_twenty.Statement.{statement}
 use Rattle.judge.proofs.check.from_twenty.Tie as tie
 
@@ -29,7 +29,7 @@ ordered-requires c κs = let d = c .before .before in
       p .0,
       p .1,
       given-kept (witnessRules z) (orderRules z) (a .args .ev .now) _ (witness-numbered z) _ _ e g,
-      given-long _ _ (given-same (witnessRules z) (orderRules z) (a .args .ev .now) _ (witness-numbered z) _ _ e g) (p .2),
+      long-from _ _ (given-same (witnessRules z) (orderRules z) (a .args .ev .now) _ (witness-numbered z) _ _ e g) (p .2),
     )
 
 same-length-2 : tie.Need-same-length-2
