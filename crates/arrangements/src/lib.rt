@@ -1,6 +1,8 @@
 // Arrangements of a list's numbers, one after the other in dictionary order.
 // Promises: `next` goes from each arrangement to the next, and from the last to the first; so who starts with the first and goes on
 // until `next` finds none has met every arrangement once.
+#![tactic(auto)]
+
 ghost use Rattle.std.specs.Prelude.{◌<◌, ◌≡◌, length};
 ghost use Rattle.order.specs.Least.{Hit};
 ghost use Rattle.arrangements.specs.Arrangement.{Next};

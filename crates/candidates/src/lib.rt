@@ -1,6 +1,8 @@
 // The candidate witnesses of a structure: section 6 with the stores, section 7 with the locked entries and each view with the events
 // that are seen, each once, in every order; section 8 with at most one source for each load, of its place and value.
 // Promises nothing about what is counted: each function ends and stays within the record, for any bytes.
+#![tactic(auto)]
+
 ghost use Rattle.std.specs.Prelude.{◌<◌};
 
 use crate::bytes::{put, put2};
@@ -10,7 +12,7 @@ use form::place::start;
 pub mod bytes;
 
 // How many candidates were judged and how many got 0; and whether something else came up, so that nothing can be said.
-#[derive(Drop)]
+#[derive(Clone, Copy)]
 pub struct Tally {
     pub judged: u64,
     pub valid: u64,
@@ -18,7 +20,7 @@ pub struct Tally {
 }
 
 // What an outcome asks for: all candidates, or view by view; and, if `ends`, the last value of an address.
-#[derive(Drop)]
+#[derive(Clone, Copy)]
 pub struct Outcome {
     pub all: bool,
     pub ends: bool,

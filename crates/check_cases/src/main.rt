@@ -1,6 +1,8 @@
 // Judges the records of standard input, each after its length in two bytes, a line for each of these: the check's answer, how many
 // entries its evidence has and these; the check with a buffer of 64 entries, and what then is in the first; the order table's answer and
 // its words; the order table's answer with room for three words, and these.
+#![tactic(auto)]
+
 use libc::STDIN_FILENO;
 
 // Prints the words before the first that is 7, with which the table was filled.

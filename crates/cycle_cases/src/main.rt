@@ -1,4 +1,6 @@
 // The cycle that is shown of some relations, beside the expected one.
+#![tactic(auto)]
+
 ghost use Rattle.std.specs.Prelude.{◌≤◌, ◌<◌, length};
 
 // The number that a digit stands for.

@@ -1,5 +1,7 @@
 // Cycles of the relation in the first n rows of a table.
 // Promises: whether there is a cycle, in one cheap pass; the cycle that is shown, written into a lent part; who reaches whom.
+#![tactic(auto)]
+
 ghost use Rattle.std.specs.Prelude.{◌≡◌, ℕ, ◌≤◌, ◌<◌, length};
 ghost use Rattle.order.specs.Decides.{Decides};
 ghost use Rattle.order.specs.Relation.{Cyclic, Chain};
@@ -113,7 +115,7 @@ fn steps(t: &[u64], all: Set, s: usize, limit: usize) -> usize
 }
 
 // A number of steps, and an event.
-#[derive(Drop)]
+#[derive(Clone, Copy)]
 pub struct Found {
     pub len: usize,
     pub at: usize,

@@ -1,5 +1,7 @@
 // What the rules ask of events, gathered once into sets: the events by processor and kind, at one place, of a locked instruction.
 // Promises: what each row of a table has, in the words of the execution.
+#![tactic(auto)]
+
 use rows::Set;
 
 pub mod gather;
@@ -10,7 +12,7 @@ pub mod places;
 pub mod sorts;
 
 // The memory loads, the memory stores, the register reads, the register writes, and the events of locked instructions.
-#[derive(Drop)]
+#[derive(Clone, Copy)]
 pub struct Classes {
     pub loads: Set,
     pub stores: Set,

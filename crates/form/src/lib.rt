@@ -1,6 +1,8 @@
 // Reading: whether a byte string is a record of form 1, and where its parts stand.
 // Promises: for every byte string the first fault that reading meets, with its section and byte, or that there is none (`whole`);
 // of a record without a fault everything that `Right` gathers. Numbers are read in place.
+#![tactic(auto)]
+
 pub mod bytes;
 pub mod chain;
 pub mod entry;
@@ -9,7 +11,7 @@ pub mod place;
 pub mod whole;
 
 // What the field tests need of a record: its processors, events and locked instructions.
-#[derive(Drop)]
+#[derive(Clone, Copy)]
 pub struct Counts {
     pub processors: usize,
     pub events: usize,
@@ -17,7 +19,7 @@ pub struct Counts {
 }
 
 // A refusal: the answer, the section and the place of the first byte of what is at fault.
-#[derive(Drop)]
+#[derive(Clone, Copy)]
 pub struct Fault {
     pub answer: u16,
     pub section: u16,
@@ -25,7 +27,7 @@ pub struct Fault {
 }
 
 // What reading finds: the place after what was read, or the first fault.
-#[derive(Drop)]
+#[derive(Clone, Copy)]
 pub enum Step {
     Next(usize),
     Stop(Fault),

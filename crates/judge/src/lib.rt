@@ -3,6 +3,8 @@
 //
 // The tables, by the letter they have everywhere: f the events by processor and kind, q by place, k by locked entry, m those of one
 // locked instruction, u the pairs of section 8, h happens-before, t the table at hand. c are the events by class, g what is known besides.
+#![tactic(auto)]
+
 use facts::Classes;
 use record::Layout;
 use rows::Set;
@@ -13,7 +15,7 @@ pub mod closer;
 pub mod views;
 
 // What the rules about the orders know of a record besides its tables: where its sections stand, its events by class, and those with a source.
-#[derive(Drop)]
+#[derive(Clone, Copy)]
 pub struct Known {
     pub layout: Layout,
     pub classes: Classes,
@@ -21,7 +23,7 @@ pub struct Known {
 }
 
 // A look at a view: how many entries the evidence against rule 24 has and, where there are none, whether the view is calm: it keeps the rules after 24.
-#[derive(Drop)]
+#[derive(Clone, Copy)]
 pub struct Look {
     pub count: usize,
     pub calm: bool,

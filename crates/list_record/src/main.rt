@@ -1,4 +1,6 @@
 // Prints the listing of the record on standard input, its first 4,096 bytes.
+#![tactic(auto)]
+
 use libc::{STDIN_FILENO, STDOUT_FILENO};
 
 // Prints the first k bytes.

@@ -38,26 +38,28 @@ module _ (R : Rel) where
 
   -- the vertices of a walk, by place, and the part of a walk between two places
   abbrev pub vert : (k a b : ℕ) → Walk R k a b → ℕ → ℕ
-  vert k a b w zero = a
-  vert zero a b w (suc i) = a
+  vert zero a b w i = a
+  vert (suc k) a b w zero = a
   vert (suc k) a b (c, r, w) (suc i) = vert k c b w i
 
   -- the first j steps
   pub front : (k a b : ℕ) (w : Walk R k a b) (j : ℕ) → j ≤ k → Walk R j a (vert k a b w j)
-  front k a b w zero h = refl
+  front zero a b w zero h = refl
   front zero a b w (suc j) h = absurd (omega arith)
+  front (suc k) a b w zero h = refl
   front (suc k) a b (c, r, w) (suc j) h = (c, r, front k c b w j (omega arith))
 
   pub between : (k a b : ℕ) (w : Walk R k a b) (i j : ℕ) → i ≤ j → j ≤ k → Walk R (j - i) (vert k a b w i) (vert k a b w j)
-  between k a b w zero j h l = rw sub-zero (front k a b w j l)
+  between zero a b w zero j h l = rw sub-zero (front zero a b w j l)
   between zero a b w (suc i) j h l = absurd (omega arith)
+  between (suc k) a b w zero j h l = rw sub-zero (front (suc k) a b w j l)
   between (suc k) a b w (suc i) zero h l = absurd (omega arith)
   between (suc k) a b (c, r, w) (suc i) (suc j) h l = rw suc-sub-suc (between k c b w i j (omega arith) (omega arith))
 
   module _ (n : ℕ) (low : Below n R) where
     vert_low : (k a b : ℕ) (w : Walk R k a b) → a < n → (i : ℕ) → vert k a b w i < n
-    vert_low k a b w h zero = h
-    vert_low zero a b w h (suc i) = h
+    vert_low zero a b w h i = h
+    vert_low (suc k) a b w h zero = h
     vert_low (suc k) a b (c, r, w) h (suc i) = vert_low k c b w (low a c r).1 i
 
     start_low : (k a b : ℕ) → Walk R (suc k) a b → a < n

@@ -1,5 +1,7 @@
 // Output of the programs that the gate runs: text, numbers, lists and verdicts, on standard output.
 // Promises nothing about values: each function ends and stays within what it is lent.
+#![tactic(auto)]
+
 use libc::STDOUT_FILENO;
 
 // Prints the bytes as they are.

@@ -1,5 +1,7 @@
 // Runs the published tests of standard input, which says how they are written. A line for each: its name, how many candidate
 // witnesses were judged, how many of them got 0, what that makes of the outcome, and what the paper says of it.
+#![tactic(auto)]
+
 use candidates::Tally;
 use libc::STDIN_FILENO;
 

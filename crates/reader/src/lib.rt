@@ -1,6 +1,8 @@
 // The service display's way into a record: a reader opened once over the lent bytes, and the entries of sections 2 to 9 one by one.
 // Promises: for every byte string and every place the first entry at or after it, by the definition `item_at`; opening gives the
 // answer of reading, and a refused record is handed on as no bytes, which hold no entry.
+#![tactic(auto)]
+
 ghost use Rattle.std.specs.Prelude.{◌≡◌, ℕ, ◌+◌, ◌*◌, ◌≤◌, ◌<◌};
 ghost use Rattle.lent.specs.Part.{PartAt};
 ghost use Rattle.form.specs.Place.{start};
@@ -12,14 +14,14 @@ use form::entry::width;
 use form::whole::whole;
 
 // What stands next: an entry's section, place and length, or that there is none. A view is one entry, its count included.
-#[derive(Drop)]
+#[derive(Clone, Copy)]
 pub enum Item {
     Entry { section: u16, at: usize, len: usize },
     Done,
 }
 
 // The lent bytes, and the place from which the next entry is looked for.
-#[derive(Drop)]
+#[derive(Clone, Copy)]
 pub struct Reader<'a> {
     pub src: &'a [u8],
     pub at: usize,

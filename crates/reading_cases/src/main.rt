@@ -1,5 +1,7 @@
 // Readings of slot case S1, cut at every length and with every byte in turn set to 255, and of records at the limits of
 // sections 2 and 4: a line each, with the answer, how many entries its evidence has, and these.
+#![tactic(auto)]
+
 ghost use Rattle.std.specs.Prelude.{◌≤◌, ◌<◌};
 
 use form::Step;

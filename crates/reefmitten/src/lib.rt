@@ -1,6 +1,8 @@
 // The judge for programs in C and Rust: the five operations and the reader under their exported names. A slice is a pointer and a
 // length, the pointer never null; a second result goes out through a reference. include/reefmitten.h says what each promises.
 // Promises: what the operations below promise, for every byte string and every lent buffer.
+#![tactic(auto)]
+
 ghost use Rattle.std.specs.Prelude.{◌≡◌, length};
 ghost use Rattle.record.specs.View.{view_answer, part_from, part_count};
 ghost use Rattle.judge.specs.Checked.{Checked};

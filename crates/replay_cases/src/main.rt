@@ -3,6 +3,8 @@
 // has and these; the replay with a buffer of 64 entries, and what then is in the first; the read-off's answer, length, the bytes of its
 // witness and the byte behind them; the check's answer and evidence for what was read off, if it was; the read-off with one byte too
 // few, and its first byte.
+#![tactic(auto)]
+
 use libc::STDIN_FILENO;
 
 fn wide_byte(x: u8) -> u64 {

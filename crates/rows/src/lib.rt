@@ -1,5 +1,7 @@
 // Sets of events below 64, and relations as rows of such sets, one for each event: leaves, each a shift or a mask or two.
 // Promises: what each makes of the members of sets and of the pairs of relations. No crate above looks into a word.
+#![tactic(auto)]
+
 ghost use Rattle.std.specs.Prelude.{◌≡◌, ◌⊎◌, ◌<◌, ◌≤◌, ◌++◌, take, drop};
 ghost use Rattle.order.specs.Decides.{Decides};
 ghost use Rattle.order.specs.Least.{Hit, Counted};
@@ -7,7 +9,7 @@ ghost use Rattle.rows.specs.Members.{In, Is, Member, Meet, Greatest};
 ghost use Rattle.rows.specs.Table.{HasRow, HasRows, rel, Adds};
 
 // A set of events below 64.
-#[derive(Drop)]
+#[derive(Clone, Copy)]
 pub struct Set {
     pub word: u64,
 }

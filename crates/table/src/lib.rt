@@ -2,6 +2,8 @@
 // Promises: for every byte string and every lent table the answer, and every word of the table (`Tabled`).
 //
 // The tables: f the events by processor and kind, q by place, k by locked entry, t section 3 and then happens-before.
+#![tactic(auto)]
+
 ghost use Rattle.std.specs.Prelude.{◌≤◌, ◌++◌, length};
 ghost use Rattle.form.specs.Right.{Right};
 ghost use Rattle.record.specs.Says.{execution_of};

@@ -4,6 +4,8 @@
 //
 // A record's length in two bytes and its bytes, how many questions follow in two bytes, then these: the operation in one byte, what it is
 // asked with, the answer, the count, and as many entries. Before a call all entries have a mark; those behind the count keep it.
+#![tactic(auto)]
+
 use libc::STDIN_FILENO;
 
 mod ask;

@@ -2,6 +2,8 @@
 // Promises: the judgement by these rules, handed out as an answer and as evidence in the lent buffer (`Given`).
 //
 // The tables: f the events by processor and kind, q by place. c are the events by class.
+#![tactic(auto)]
+
 ghost use Rattle.std.specs.Prelude.{◌≤◌, length, drop};
 ghost use Rattle.order.specs.Rule.{Judged};
 ghost use Rattle.order.specs.Evidence.{Given};
