@@ -5,7 +5,7 @@ use Rattle.form.specs.Form.{width}
 use Rattle.record.specs.Says.{execution_of}
 use Rattle.record.proofs.Lengths.{small}
 use Rattle.record.proofs.Reading.{field_fits, entry_fit, field_small, entry_small, index_small, field_of, first_of, owned_tested, owned_for, for_owned}
-use Rattle.record.proofs.lists.initial_for.Goals.{then-num4-x, else-num4-x}
+use Rattle.record.proofs.lists.initial_for.Goals.{then-num4-x+else-x-class, else-num4-x}
 use Rattle.record.proofs.lists.initial_for.Goals as goal
 
 pub loop-i-init : goal.loop-i-init
@@ -55,7 +55,17 @@ loop-i-smaller c = omega arith
 
 pub loop-i-preserved : goal.loop-i-preserved
 unfolding width
-loop-i-preserved c = ?
+loop-i-preserved c = let x = c.args.x in
+    let i = (execution_of c.args.s.now).initials.item c.loop-i.i in
+    let e = c.num4.ensures.0 ∙ field_of _ c.requires.0 5 (omega arith) (omega arith) _ c.requires.1 12 refl c.loop-i.i c.loop-i-test.true 4 4 in (
+      omega arith,
+      none_next _ _ c.loop-i.invariant.1 (elim c.if-num4-x.branch [
+        then-num4-x+else-x-class w ↦ λ q. (owned_tested x i _ _
+            (w.num1-class.ensures.0 ∙ field_of _ c.requires.0 5 (omega arith) (omega arith) _ c.requires.1 12 refl c.loop-i.i c.loop-i-test.true 1 1)
+            (w.num1.ensures.0 ∙ first_of _ c.requires.0 5 (omega arith) (omega arith) _ c.requires.1 12 refl c.loop-i.i c.loop-i-test.true 1)).fails w.if-x-class.false (for_owned x i q).1
+        | else-num4-x w ↦ λ q. w.if-num4-x.false (e ∙ sym (for_owned x i q).0)
+      ]),
+    )
 
 pub returns : goal.returns
 returns c = hit_not _ _ _ c.loop-i.invariant.1 c.loop-i-test.false

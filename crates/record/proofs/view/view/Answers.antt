@@ -12,4 +12,6 @@ overflow_add-to c = let a = c.args in
 
 pub returns : goal.returns
 unfolding view_part
-returns c = ?
+returns c = let f = c.find-f.ensures in
+    let e = f.from in
+    record { answer = f.answer; part = rw add-sub_cancel_left (cc); place = (refl, omega arith) }
