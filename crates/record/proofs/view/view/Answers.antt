@@ -15,3 +15,8 @@ unfolding view_part
 returns c = let f = c.find-f.ensures in
     let e = f.from in
     record { answer = f.answer; part = rw add-sub_cancel_left (cc); place = (refl, omega arith) }
+
+pub slice_bounds-result-end : goal.slice_bounds-result-end
+slice_bounds-result-end c = let a = c.args in
+    let h = part_fits a.s.now a.p in
+    omega arith
