@@ -1,6 +1,5 @@
 use mathlib.Core.Path.{◌∙◌}
 use native.Mathlib.Omega.{arith}
-use borrow.Author.Tests.{not-true, not-false}
 use Rattle.order.proofs.Searches.{none_yet, none_next, hit_at, hit_not}
 use Rattle.structure.proofs.Pairs.{pair_fits, pair_low, pair_within, pair_from, pair_to, from_low, to_low, joining_is, joining_not}
 use Rattle.structure.proofs.causes.joining.Goals as goal
@@ -47,7 +46,7 @@ returns-then-not-same_instruction c = let ea = c.num1.ensures.0 ∙ pair_from _ 
     let w = pair_within _ c.requires.0 _ c.requires.1 c.loop-i.i c.loop-i-test.true in
     let ex = c.event_of-x.ensures in
     let ey = c.event_of-y.ensures in
-    hit_at _ _ _ c.loop-i.invariant.1 c.loop-i-test.true (joining_is _ _ _ _ _ _ ea eb ex ey w (c.same_instruction.ensures.fails (not-true _ c.if-not-same_instruction.true)))
+    hit_at _ _ _ c.loop-i.invariant.1 c.loop-i-test.true (joining_is _ _ _ _ _ _ ea eb ex ey w (c.same_instruction.ensures.fails c.if-not-same_instruction.true))
 
 pub overflow_add-i : goal.overflow_add-i
 overflow_add-i c = omega arith
@@ -61,7 +60,7 @@ loop-i-preserved c = let ea = c.num1.ensures.0 ∙ pair_from _ c.requires.0 _ c.
     let w = pair_within _ c.requires.0 _ c.requires.1 c.loop-i.i c.loop-i-test.true in
     let ex = c.event_of-x.ensures in
     let ey = c.event_of-y.ensures in
-    (omega arith, none_next _ _ c.loop-i.invariant.1 (joining_not _ _ _ _ _ _ ea eb ex ey (c.same_instruction.ensures.holds (not-false _ c.if-not-same_instruction.false))))
+    (omega arith, none_next _ _ c.loop-i.invariant.1 (joining_not _ _ _ _ _ _ ea eb ex ey (c.same_instruction.ensures.holds c.if-not-same_instruction.false)))
 
 pub returns : goal.returns
 returns c = hit_not _ _ _ c.loop-i.invariant.1 c.loop-i-test.false

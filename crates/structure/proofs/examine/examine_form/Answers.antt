@@ -4,7 +4,7 @@ use Rattle.structure.proofs.examine.examine_form.Goals as goal
 
 pub gather-c-requires : goal.gather-c-requires
 gather-c-requires c = let p = c.requires in
-    ((p.0, p.1), ((omega arith, zeros_rel 8), ((omega arith, zeros_rel 64), (omega arith, zeros_rel 17))))
+    record { right = (p.0, p.1); has_rows = ((omega arith, zeros_rel 8), ((omega arith, zeros_rel 64), (omega arith, zeros_rel 17))) }
 
 pub structure-requires : goal.structure-requires
 structure-requires c = let p = c.requires in

@@ -1,5 +1,4 @@
 use native.Mathlib.Omega.{arith}
-use borrow.Author.Tests.{not-true, not-false}
 use Rattle.order.proofs.Searches.{none_yet, none_next, hit_at, hit_not}
 use Rattle.structure.proofs.Locked.{eventless_is, eventless_not}
 use Rattle.structure.proofs.locks.eventless.Goals as goal
@@ -14,7 +13,7 @@ row-requires c = let t = c.loop-i-test.true in
 
 pub returns-then-not-any : goal.returns-then-not-any
 returns-then-not-any c = let t = c.loop-i-test.true in
-    λ x f e. hit_at _ _ _ (c.loop-i.invariant.1 x f e) t (eventless_is x _ f _ (omega arith) _ c.row.ensures (c.any.ensures.fails (not-true _ c.if-not-any.true)))
+    λ x f e. hit_at _ _ _ (c.loop-i.invariant.1 x f e) t (eventless_is x _ f _ (omega arith) _ c.row.ensures (c.any.ensures.fails c.if-not-any.true))
 
 pub overflow_add-i : goal.overflow_add-i
 overflow_add-i c = omega arith
@@ -24,7 +23,7 @@ loop-i-smaller c = omega arith
 
 pub loop-i-preserved : goal.loop-i-preserved
 loop-i-preserved c = let t = c.loop-i-test.true in
-    (omega arith, λ x f e. none_next _ _ (c.loop-i.invariant.1 x f e) (eventless_not x _ f _ (omega arith) _ c.row.ensures (c.any.ensures.holds (not-false _ c.if-not-any.false))))
+    (omega arith, λ x f e. none_next _ _ (c.loop-i.invariant.1 x f e) (eventless_not x _ f _ (omega arith) _ c.row.ensures (c.any.ensures.holds c.if-not-any.false)))
 
 pub returns : goal.returns
 returns c = λ x f e. hit_not _ _ _ (c.loop-i.invariant.1 x f e) c.loop-i-test.false

@@ -9,12 +9,12 @@ use Rattle.structure.proofs.rules.from_twelve.Goals as goal
 
 pub unordered-a-requires : goal.unordered-a-requires
 unordered-a-requires c = let p = c.requires in
-    ((p.0.right, p.2, p.0.placed), registers_of _ p.0.right _ p.0.classed _ c.union.ensures)
+    record { right = (p.0.right, p.2, p.0.placed); is = registers_of _ p.0.right _ p.0.classed _ c.union.ensures }
 
 pub unordered_with-b-requires : goal.unordered_with-b-requires
 unordered_with-b-requires c = let p = c.requires in
     let i = registers_of _ p.0.right _ p.0.classed _ c.union.ensures in
-    ((p.0.right, p.2, p.0.placed), i.says _ (first_register _ p.0.right _ i _ (c.unordered-a.ensures.hit c.if-a-lt64.true)))
+    record { right = (p.0.right, p.2, p.0.placed); a_bound = i.says _ (first_register _ p.0.right _ i _ (c.unordered-a.ensures.hit c.if-a-lt64.true)) }
 
 pub bounds-ev-1 : goal.bounds-ev-1
 bounds-ev-1 c = let b = c.requires.3 in simp length-set (omega arith)

@@ -37,9 +37,9 @@ returns-then-i-causes c = let q = c.requires.0 in
     let b = c.requires.3 in
     let x = c.num1.ensures.0 ∙ pair_from _ q.right _ q.laid.causes _ c.if-i-causes.true in
     let y = c.num1-then-i-causes.ensures.0 ∙ pair_to _ q.right _ q.laid.causes _ c.if-i-causes.true in
-    (λ z. absurd (omega arith), entry_shown 10 _ _ _ c.joining-i.ensures c.if-i-causes.true _ _ _ (pair_shown (execution_of c.args.s.now) c.joining-i.result _ _ x y) _ c.args.ev.now (omega arith))
+    record { held = λ z. absurd (omega arith); given = entry_shown 10 _ _ _ c.joining-i.ensures c.if-i-causes.true _ _ _ (pair_shown (execution_of c.args.s.now) c.joining-i.result _ _ x y) _ c.args.ev.now (omega arith) }
 
 pub returns : goal.returns
 returns c = let q = c.requires.0 in
     let r = c.from_eleven.ensures in
-    record { held = λ z. r.0; given = given_next _ _ _ _ _ _ (kept_10 _ q.right _ q.laid.causes _ c.if-i-causes.false c.joining-i.ensures) r.1 }
+    record { held = λ z. r.held; given = given_next _ _ _ _ _ _ (kept_10 _ q.right _ q.laid.causes _ c.if-i-causes.false c.joining-i.ensures) r.given }
