@@ -6,7 +6,7 @@ use native.Mathlib.Omega.{arith}
 use native.Mathlib.Decide.{ℕ_discrete, dec_lt}
 use native.Mathlib.Nat.{div-eq_of_lt, div_self, div-one, pow-suc, mul-mod_left, zero-div, one-mul, div-add-mod'}
 use native.Mathlib.Numerals.{one-add}
-use lib.Pow.{pow_pos, pow-lt, pow-add, shl-shr, shr-shr, shl_exact, high}
+use lib.Pow.{pow_pos, pow-lt, pow-add, shl-shr, shr-shr, shl_exact}
 use lib.Dec.{lit<}
 use lib.Arith.{lt-one}
 use lib.Bits.{bit_and, bit_or, and_shr, or_shr, and_step, or_step, bit_xor, differ, xor_step, xor_shr, xor_comm, xor_add_and, and_mask, block_half, block_odd}

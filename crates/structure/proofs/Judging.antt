@@ -17,7 +17,6 @@ use Rattle.rows.specs.Members.{In, Is}
 use Rattle.rows.specs.declared.Set.{Set}
 use Rattle.rows.proofs.Members.{is_as}
 use Rattle.cycles.specs.Showing.{Showing}
-use Rattle.form.specs.Place.{count}
 use Rattle.form.specs.Right.{Right}
 use Rattle.record.specs.Execution.{Execution}
 use Rattle.record.specs.Says.{execution_of}

@@ -41,7 +41,7 @@ loop-from-preserved c = let p = c.loop-from.invariant in
     let m = first_in _ (c.any.ensures.holds c.loop-from-test.true) _ c.first-e.ensures in
     let e = c.num2.ensures.0 ∙ event_index _ c.first-e.result in
     elim c.if-num2-index.branch [
-      then-num2-index w ↦ rw w.r-is (filter_more _ _ _ _ p _ m _ c.without-from.ensures (sym e ∙ w.if-num2-index.true) _ _ w.one.ensures w.union-r.ensures)
+      | then-num2-index w ↦ rw w.r-is (filter_more _ _ _ _ p _ m _ c.without-from.ensures (sym e ∙ w.if-num2-index.true) _ _ w.one.ensures w.union-r.ensures)
       | else-num2-index w ↦ rw w.r-is (filter_skip _ _ _ _ p _ m _ c.without-from.ensures (λ q. w.if-num2-index.false (e ∙ q)))
     ]
 

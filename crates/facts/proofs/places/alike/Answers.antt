@@ -46,7 +46,7 @@ loop-from-preserved c = let p = c.loop-from.invariant in
     let m = first_in _ (c.any.ensures.holds c.loop-from-test.true) _ c.first-k.ensures in
     let e = ap (λ (y : Event). y.place) c.event_of-y.ensures in
     elim c.if-y-place.branch [
-      then-y-place w ↦ rw w.r-is (filter_more _ _ _ _ p _ m _ c.without-from.ensures (sym e ∙ w.if-y-place.true) _ _ w.one.ensures w.union-r.ensures)
+      | then-y-place w ↦ rw w.r-is (filter_more _ _ _ _ p _ m _ c.without-from.ensures (sym e ∙ w.if-y-place.true) _ _ w.one.ensures w.union-r.ensures)
       | else-y-place w ↦ rw w.r-is (filter_skip _ _ _ _ p _ m _ c.without-from.ensures (λ q. w.if-y-place.false (e ∙ q)))
     ]
 

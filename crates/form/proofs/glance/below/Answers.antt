@@ -31,7 +31,7 @@ loop-i-preserved c = let a = c.args in
     let t = c.loop-i-test.true in
     let b = c.type_inv.s (a.at + c.loop-i.i) in
     elim c.if-most-b.branch [
-      then-most-b w ↦ let g = w.if-most-b.true in let e = w.most-is in topped_more _ _ _ _ _ _ _ p t (omega (arith, b)) (omega arith) (omega arith)
+      | then-most-b w ↦ let g = w.if-most-b.true in let e = w.most-is in topped_more _ _ _ _ _ _ _ p t (omega (arith, b)) (omega arith) (omega arith)
       | else-most-b w ↦ let g = w.if-most-b.false in let e = w.most-is in topped_more _ _ _ _ _ _ _ p t (omega arith) (omega arith) (omega arith)
     ]
 

@@ -60,7 +60,7 @@ loop-i-preserved c = let x = c.args.x in
     let e = c.num4.ensures.0 ∙ field_of _ c.requires.0 5 (omega arith) (omega arith) _ c.requires.1 12 refl c.loop-i.i c.loop-i-test.true 4 4 in (
       omega arith,
       none_next _ _ c.loop-i.invariant.1 (elim c.if-num4-x.branch [
-        then-num4-x+else-x-class w ↦ λ q. (owned_tested x i _ _
+        | then-num4-x+else-x-class w ↦ λ q. (owned_tested x i _ _
             (w.num1-class.ensures.0 ∙ field_of _ c.requires.0 5 (omega arith) (omega arith) _ c.requires.1 12 refl c.loop-i.i c.loop-i-test.true 1 1)
             (w.num1.ensures.0 ∙ first_of _ c.requires.0 5 (omega arith) (omega arith) _ c.requires.1 12 refl c.loop-i.i c.loop-i-test.true 1)).fails w.if-x-class.false (for_owned x i q).1
         | else-num4-x w ↦ λ q. w.if-num4-x.false (e ∙ sym (for_owned x i q).0)

@@ -1,0 +1,17 @@
+use Prim.Native.Nat.{ℕ}
+use Rattle.order.specs.Rule.{Any}
+use Rattle.rows.specs.Members.{In}
+use Rattle.rows.proofs.Members.{value}
+use Rattle.record.specs.Execution.{Items, Execution}
+use Rattle.facts.specs.Facts.{Mated}
+use Rattle.model.specs.Model.{Locked}
+use Rattle.model.specs.Rules.{BreaksUp}
+use Rattle.axioms.specs.Scene.{Lined}
+use Rattle.axioms.proofs.Seeking.{Seeking}
+use Rattle.axioms.proofs.locked.tearing.Given as goal
+
+abbrev pub invariant-loop-all : goal.invariant-loop-all
+invariant-loop-all l = (z : Execution) (l : Items ℕ) → Lined z l l.t l.all → Mated z l.m → Locked z l.a → In l.all l.a → Seeking (λ x. Any 1 (BreaksUp z l l.a x)) l.initial.from l.from
+
+abbrev pub decreases-loop-all : goal.decreases-loop-all
+decreases-loop-all l = value l.from
