@@ -11,7 +11,7 @@ use Rattle.axioms.proofs.Seeking.{Seeking}
 use Rattle.axioms.proofs.locked.tearing.Given as goal
 
 abbrev pub invariant-loop-all : goal.invariant-loop-all
-invariant-loop-all l = (z : Execution) (l : Items ℕ) → Lined z l l.t l.all → Mated z l.m → Locked z l.a → In l.all l.a → Seeking (λ x. Any 1 (BreaksUp z l l.a x)) l.initial.from l.from
+invariant-loop-all l = (z : Execution) (line : Items ℕ) → Lined z line l.t l.all → Mated z l.m → Locked z l.a → In l.all l.a → Seeking (λ x. Any 1 (BreaksUp z line l.a x)) l.initial.from l.from
 
 abbrev pub decreases-loop-all : goal.decreases-loop-all
 decreases-loop-all l = value l.from
