@@ -34,13 +34,13 @@ loop-i-smaller c = omega arith
 
 pub loop-i-preserved : goal.loop-i-preserved
 loop-i-preserved c = let a = c.args in (
-      omega arith,
-      pairs_more (execution_of a.s.now).sources _ _ _ _
-          c.loop-i.invariant.1 _ _
-          c.source_of.ensures
-          c.reader_of.ensures
-          c.link.ensures,
-    )
+  omega arith,
+  pairs_more (execution_of a.s.now).sources _ _ _ _
+      c.loop-i.invariant.1 _ _
+      c.source_of.ensures
+      c.reader_of.ensures
+      c.link.ensures,
+)
 
 pub shape_of-t : goal.shape_of-t
 shape_of-t c = c.loop-i.invariant.1.same

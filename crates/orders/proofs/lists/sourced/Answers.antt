@@ -25,9 +25,9 @@ loop-i-smaller c = omega arith
 
 pub loop-i-preserved : goal.loop-i-preserved
 loop-i-preserved c = let a = c.args in (
-      omega arith,
-      ends_more (execution_of a.s.now).sources _ _ c.loop-i.invariant.1 _ c.reader_of.ensures _ _ c.one.ensures c.union-r.ensures,
-    )
+  omega arith,
+  ends_more (execution_of a.s.now).sources _ _ c.loop-i.invariant.1 _ c.reader_of.ensures _ _ c.one.ensures c.union-r.ensures,
+)
 
 pub returns : goal.returns
 returns c = let q = c.requires.1.number in

@@ -1,8 +1,7 @@
-use mathlib.Core.Logic.{⊎_elim}
 use native.Mathlib.Omega.{arith}
 use Rattle.rows.proofs.Members.{in_low, first_in, taken_less}
 use Rattle.orders.proofs.Earliest.{seek_begin, seek_lower, seek_equal, seek_skip, seek_done, index_small}
-use Rattle.orders.proofs.preserved.earliest.Goals.{then-x-least, else-x-least}
+use Rattle.orders.proofs.preserved.earliest.Goals.{then-x-least, else-x-least+then-x-least-2, else-x-least+else-x-least-2}
 use Rattle.orders.proofs.preserved.earliest.Goals as goal
 
 pub loop-from-init : goal.loop-from-init
@@ -30,11 +29,9 @@ loop-from-preserved c = let m = first_in _ (c.any.ensures.holds c.loop-from-test
     let e = c.event_of-x.ensures in
     let k = c.without-from.ensures in
     elim c.if-x-least.branch [
-      then-x-least w ↦ rw (w.EQ1-is, w.EQ2-is) (seek_lower _ _ _ _ _ c.loop-from.invariant _ m _ e _ k w.if-x-least.true _ w.one-r.ensures)
-      | else-x-least v ↦ ⊎_elim
-    (λ w. rw (w.5, w.6) (seek_equal _ _ _ _ _ c.loop-from.invariant _ m _ e _ k w.2.taken _ _ w.3.ensures w.4.ensures))
-    (λ w. rw (w.3, w.4) (seek_skip _ _ _ _ _ c.loop-from.invariant _ m _ e _ k w.0.left w.2.left))
-    v
+      | then-x-least w ↦ rw (w.least-is, w.r-is) (seek_lower _ _ _ _ _ c.loop-from.invariant _ m _ e _ k w.if-x-least.true _ w.one-r.ensures)
+      | else-x-least+then-x-least-2 w ↦ rw (w.least-is, w.r-is) (seek_equal _ _ _ _ _ c.loop-from.invariant _ m _ e _ k w.if-x-least-2.true _ _ w.one.ensures w.union-r.ensures)
+      | else-x-least+else-x-least-2 w ↦ rw (w.least-is, w.r-is) (seek_skip _ _ _ _ _ c.loop-from.invariant _ m _ e _ k w.if-x-least.false w.if-x-least-2.false)
     ]
 
 pub returns : goal.returns

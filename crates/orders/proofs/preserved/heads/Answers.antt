@@ -4,7 +4,7 @@ use Rattle.rows.proofs.Members.{in_low, first_in, taken_less}
 use Rattle.record.specs.declared.Event.{Event}
 use Rattle.orders.proofs.Earliest.{index_small}
 use Rattle.orders.proofs.Headings.{heads_begin, heads_more, heads_same, heads_done}
-use Rattle.orders.proofs.preserved.heads.Goals.{then-next-i, else-next-i}
+use Rattle.orders.proofs.preserved.heads.Goals.{then-next-i, else-next-i+else-i-next}
 use Rattle.orders.proofs.preserved.heads.Goals as goal
 
 pub loop-from-init : goal.loop-from-init
@@ -42,8 +42,8 @@ loop-from-preserved c = let m = c.any.ensures.holds c.loop-from-test.true in
     let e = c.event_of-x.ensures in
     let k = c.without-from.ensures in
     elim c.if-next-i.branch [
-      then-next-i w ↦ rw (w.EQ1-is, w.EQ2-is) (heads_more _ _ _ _ _ c.loop-from.invariant m _ c.first-e.ensures _ e _ k w.if-next-i.true _ _ w.one.ensures w.union-r.ensures)
-      | else-next-i w ↦ rw (w.EQ2-is, w.EQ3-is) (heads_same _ _ _ _ _ c.loop-from.invariant m _ c.first-e.ensures _ e _ k (let h = w.if-next-i.false in omega arith) (let h = w.EQ1-is.left in omega arith))
+      | then-next-i w ↦ rw (w.next-is, w.r-is) (heads_more _ _ _ _ _ c.loop-from.invariant m _ c.first-e.ensures _ e _ k w.if-next-i.true _ _ w.one.ensures w.union-r.ensures)
+      | else-next-i+else-i-next w ↦ rw (w.next-is, w.r-is) (heads_same _ _ _ _ _ c.loop-from.invariant m _ c.first-e.ensures _ e _ k (let h = w.if-next-i.false in omega arith) (let h = w.if-i-next.false in omega arith))
     ]
 
 pub returns : goal.returns

@@ -13,7 +13,7 @@ put_steps-requires-3 c = let e = c.put_steps-2.ensures.same in
 pub returns : goal.returns
 returns c = let a = c.args in
     let h : Held a.here a.c.locked c.union-memory.result c.if-meets.held = elim c.if-meets.branch [
-      then-meets w ↦ rw w.held-is (held_all _ _ _ (c.meets.ensures.holds w.if-meets.true))
+      | then-meets w ↦ rw w.held-is (held_all _ _ _ (c.meets.ensures.holds w.if-meets.true))
       | else-meets w ↦ rw w.held-is (held_none _ _ _ _ (c.meets.ensures.fails w.if-meets.false) c.none-held.ensures)
     ] in
     λ z q k x y o. instruction_adds z _ _ _ _ q k x y o _ _ c.union-memory.ensures h

@@ -25,15 +25,15 @@ loop-c-smaller c = taken_less _ (c.any.ensures.holds c.loop-c-test.true) _ c.fir
 
 pub loop-c-preserved : goal.loop-c-preserved
 loop-c-preserved c = let s = c.any.ensures.holds c.loop-c-test.true in (
-      c.put_instruction.auto.0 ∙ c.loop-c.invariant.0,
-      λ z a b p h.
-          let (v, r) = c.loop-c.invariant.1 z a b p h in
-          let n = ahead_here z _ _ h _ _ v s _ c.first-h.ensures _ c.without-ahead.ensures _ c.first.ensures _ _ c.full.ensures c.common-here.ensures in
-          let k = c.minus-rest.ensures in (
-            ahead_more z _ _ h _ _ v s _ c.first-h.ensures _ c.without-ahead.ensures _ c.first.ensures _ _ c.full.ensures c.common-here.ensures _ k,
-            run_more _ _ p _ _ _ r _ _ n k _ (c.put_instruction.ensures z a b (run_here _ _ p _ _ _ r _ _ n k) (run_less _ _ p _ _ _ r _ _ n k) (run_one _ _ p _ _ _ r _ _ n k)),
-          ),
-    )
+  c.put_instruction.auto.t ∙ c.loop-c.invariant.0,
+  λ z a b p h.
+      let (v, r) = c.loop-c.invariant.1 z a b p h in
+      let n = ahead_here z _ _ h _ _ v s _ c.first-h.ensures _ c.without-ahead.ensures _ c.first.ensures _ _ c.full.ensures c.common-here.ensures in
+      let k = c.minus-rest.ensures in (
+        ahead_more z _ _ h _ _ v s _ c.first-h.ensures _ c.without-ahead.ensures _ c.first.ensures _ _ c.full.ensures c.common-here.ensures _ k,
+        run_more _ _ p _ _ _ r _ _ n k _ (c.put_instruction.ensures z a b (run_here _ _ p _ _ _ r _ _ n k) (run_less _ _ p _ _ _ r _ _ n k) (run_one _ _ p _ _ _ r _ _ n k)),
+      ),
+)
 
 pub shape_of-t : goal.shape_of-t
 shape_of-t c = c.loop-c.invariant.0

@@ -5,7 +5,7 @@ use Rattle.orders.proofs.Unions.{stores_adds, locks_adds, happens}
 use Rattle.orders.proofs.union.put_happens_before.Goals as goal
 
 pub put_part_of_order-requires : goal.put_part_of_order-requires
-put_part_of_order-requires c = let p = c.preFIXME in
+put_part_of_order-requires c = let p = c.requires in
     let g = p.0 in
     let r = g.ready.right in
     let h = p.1.rows in
@@ -14,7 +14,7 @@ put_part_of_order-requires c = let p = c.preFIXME in
     (listed_more _ _ _ _ n (stores_listed _ r _ g.ready.laid), g.ready.placed.rows, omega arith)
 
 pub put_order_of_groups-requires : goal.put_order_of_groups-requires
-put_order_of_groups-requires c = let p = c.preFIXME in
+put_order_of_groups-requires c = let p = c.requires in
     let g = p.0 in
     let r = g.ready.right in
     let h = p.1.rows in
@@ -25,7 +25,7 @@ put_order_of_groups-requires c = let p = c.preFIXME in
     (listed_more _ _ _ _ n (locks_listed _ r _ g.ready.laid), omega arith, omega arith)
 
 pub put_sources-requires : goal.put_sources-requires
-put_sources-requires c = let p = c.preFIXME in
+put_sources-requires c = let p = c.requires in
     let g = p.0 in
     let r = g.ready.right in
     let h = p.1.rows in
@@ -35,7 +35,7 @@ put_sources-requires c = let p = c.preFIXME in
     (r, g.ready.laid.sources, omega arith)
 
 pub returns : goal.returns
-returns c = let p = c.preFIXME in
+returns c = let p = c.requires in
     let g = p.0 in
     let r = g.ready.right in
     let h = p.1.rows in
