@@ -1,0 +1,75 @@
+use Prim.Native.Nat.{◌<◌}
+use lib.ListN.{length}
+use native.Mathlib.Omega.{arith}
+use borrow.Author.Tests.{not-false}
+use Rattle.order.proofs.Searches.{none_yet, none_next, hit_at, hit_not}
+use Rattle.record.specs.Says.{execution_of}
+use Rattle.replay.proofs.Stating.{read_known}
+use Rattle.replay.proofs.Values.{step_is, step_low, differs_is, differs_not}
+use Rattle.replay.proofs.steps.differing.Goals as goal
+
+pub loop-i-init : goal.loop-i-init
+loop-i-init c = (omega arith, λ l a e. (c.new-state.ensures _ l, none_yet _))
+
+pub num1-e-requires : goal.num1-e-requires
+num1-e-requires c =
+    let (l, a, e) = c.requires.by_index in
+    let f = a.fits in
+    omega arith
+
+pub has-requires : goal.has-requires
+has-requires c =
+    let p = c.requires in
+    let h = c.loop-i-test.true in
+    (step_low _ p.right.0 _ _ p.by_index _ (omega arith) _ c.num1-e.ensures.0).1
+
+pub agrees-requires : goal.agrees-requires
+agrees-requires c =
+    let p = c.requires in
+    let h = c.loop-i-test.true in
+    let (l, a, e) = p.by_index in record { right = (p.right.0, p.right.1, p.right.2, (step_low _ p.right.0 _ _ p.by_index _ (omega arith) _ c.num1-e.ensures.0).0); by_index = (l, (c.loop-i.i, (c.loop-i.invariant.1 l a e).0)) }
+
+pub returns-then-not-agrees : goal.returns-then-not-agrees
+returns-then-not-agrees c l a e =
+    let z = execution_of c.args.s.now in
+    let r = c.num1-e.ensures.0 in
+    let h = c.loop-i-test.true in
+    let g = (step_low _ c.requires.right.0 _ _ c.requires.by_index _ (omega arith) _ r).0 in
+    let (s, f) = c.loop-i.invariant.1 l a e in
+    hit_at _ _ _ f h
+    (differs_is z l _ a _ (omega arith) _ r
+    ((read_known z _ c.requires.right.3 _ _ g _ c.union-reads.ensures c.has.ensures).holds c.if-has.true)
+    ((c.agrees.ensures l _ s).fails c.if-not-agrees.true))
+
+pub step-state-requires : goal.step-state-requires
+step-state-requires c =
+    let p = c.requires in
+    let t = c.loop-i-test.true in
+    let h = (step_low _ p.right.0 _ _ p.by_index _ (omega arith) _ c.num1-e.ensures.0).1 in
+    let q = p.right.2.rows in
+    (omega arith, h)
+
+pub overflow_add-i : goal.overflow_add-i
+overflow_add-i c = omega arith
+
+pub loop-i-smaller : goal.loop-i-smaller
+loop-i-smaller c = omega arith
+
+pub loop-i-preserved : goal.loop-i-preserved
+loop-i-preserved c =
+    let z = execution_of c.args.s.now in
+    let r = c.num1-e.ensures.0 in
+    let g = (step_low _ c.requires.right.0 _ _ c.requires.by_index _ c.loop-i-test.true _ r).0 in (
+      omega arith,
+      λ l a e. let h : c.loop-i.i < length l = omega arith in
+          let (s, f) = c.loop-i.invariant.1 l a e in (
+            c.step-state.ensures z l _ c.requires.right.2 c.requires.right.3 g (step_is z l _ a _ h _ r) s,
+            none_next _ _ f
+                (differs_not z l _ a _ h _ r c.if-has.branch
+                (λ v. (v.1.ensures l _ s).holds (not-false _ v.2.left))
+                (λ v. (read_known z _ c.requires.right.3 _ _ g _ c.union-reads.ensures c.has.ensures).fails v.left)),
+          ),
+    )
+
+pub returns : goal.returns
+returns c l a e = hit_not _ _ _ (c.loop-i.invariant.1 l a e).1 c.loop-i-test.false
