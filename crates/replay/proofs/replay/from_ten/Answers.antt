@@ -1,3 +1,4 @@
+use mathlib.Core.List.{[]}
 use native.Mathlib.Omega.{arith}
 use Rattle.order.proofs.Judgements.{given_stop, given_kept, given_on}
 use Rattle.rows.proofs.Table.{zeros_rel}

@@ -1,11 +1,12 @@
+use mathlib.Core.Logic.{inl, inr}
 use Prim.Native.Nat.{◌<◌}
 use lib.ListN.{length}
 use native.Mathlib.Omega.{arith}
-use borrow.Author.Tests.{not-false}
 use Rattle.order.proofs.Searches.{none_yet, none_next, hit_at, hit_not}
 use Rattle.record.specs.Says.{execution_of}
 use Rattle.replay.proofs.Stating.{read_known}
 use Rattle.replay.proofs.Values.{step_is, step_low, differs_is, differs_not}
+use Rattle.replay.proofs.steps.differing.Goals.{then-has+else-not-agrees, else-has}
 use Rattle.replay.proofs.steps.differing.Goals as goal
 
 pub loop-i-init : goal.loop-i-init
@@ -64,10 +65,10 @@ loop-i-preserved c =
       λ l a e. let h : c.loop-i.i < length l = omega arith in
           let (s, f) = c.loop-i.invariant.1 l a e in (
             c.step-state.ensures z l _ c.requires.right.2 c.requires.right.3 g (step_is z l _ a _ h _ r) s,
-            none_next _ _ f
-                (differs_not z l _ a _ h _ r c.if-has.branch
-                (λ v. (v.1.ensures l _ s).holds (not-false _ v.2.left))
-                (λ v. (read_known z _ c.requires.right.3 _ _ g _ c.union-reads.ensures c.has.ensures).fails v.left)),
+            none_next _ _ f (elim c.if-has.branch [
+              then-has+else-not-agrees w ↦ differs_not z l _ a _ h _ r {A = Unit {0}} {B = ⊥} (inl tt) (λ v. (w.agrees.ensures l _ s).holds w.if-not-agrees.false) (λ v. absurd v)
+              | else-has w ↦ differs_not z l _ a _ h _ r {A = ⊥} {B = Unit {0}} (inr tt) (λ v. absurd v) (λ v. (read_known z _ c.requires.right.3 _ _ g _ c.union-reads.ensures c.has.ensures).fails w.if-has.false)
+            ]),
           ),
     )
 
