@@ -2,45 +2,46 @@
 // Promises nothing about values: each function ends and stays within what it is lent.
 #![tactic(auto)]
 
-use libc::STDOUT_FILENO;
+use std::io;
 
 // Prints the bytes as they are.
-pub fn text(s: &[u8]) {
-    io::write_all(STDOUT_FILENO, s);
+pub fn text(rt: &impl Print, s: &[u8]) -> io::Result<()> {
+    rt.write_all(s)
 }
 
 // Prints a number in decimal.
-pub fn decimal(x: u64) {
-    io::print_decimal(STDOUT_FILENO, x);
+pub fn decimal(rt: &impl Print, x: u64) -> io::Result<()> {
+    print!(rt; "{x}")
 }
 
 // Prints a space and a number in decimal.
-pub fn number(x: u64) {
-    text(b" ");
-    decimal(x);
+pub fn number(rt: &impl Print, x: u64) -> io::Result<()> {
+    print!(rt; " {x}")
 }
 
 // Prints a space and a number of 16 bits in decimal.
-pub fn short(x: u16) {
-    number(x as u64);
+pub fn short(rt: &impl Print, x: u16) -> io::Result<()> {
+    print!(rt; " {x}")
 }
 
 // Prints the first k numbers, each behind a space.
-pub fn list(l: &[u16], k: usize) {
-    let mut i = 0;
-    while i < l.len() {
-        if i == k {
-            return;
-        }
-        short(l[i]);
-        i += 1;
+pub fn list(rt: &impl Print, l: &[u16], k: usize) -> io::Result<()> {
+    for x in l.iter().take(k) {
+        short(rt, *x)?;
     }
+    Ok(())
 }
 
 // Prints an answer, how many entries of evidence it has, the first k entries of the buffer, and ends the line.
-pub fn verdict(answer: u16, count: usize, evidence: &[u16], k: usize) {
-    short(answer);
-    number(count as u64);
-    list(evidence, k);
-    text(b"\n");
+pub fn verdict(
+    rt: &impl Print,
+    answer: u16,
+    count: usize,
+    evidence: &[u16],
+    k: usize,
+) -> io::Result<()> {
+    short(rt, answer)?;
+    number(rt, count as u64)?;
+    list(rt, evidence, k)?;
+    text(rt, b"\n")
 }

@@ -5,6 +5,7 @@
 ghost use Rattle.std.specs.Prelude.{◌≤◌, ◌<◌};
 
 use form::Step;
+use std::io;
 
 const S1: [u8; 102] = [
     1, 2, 4, 0, 0, 1, 0, 0, 100, 0, 0, 0, 1, 0, 0, 0, 0, 0, 1, 0, 200, 0, 0, 0, 0, 0, 0, 0, 1, 1,
@@ -14,58 +15,56 @@ const S1: [u8; 102] = [
 ];
 
 // One line: what reading and the structure rules answer.
-fn print_examined(name: &[u8], number: usize, s: &[u8]) {
+fn print_examined(rt: &impl Print, name: &[u8], number: usize, s: &[u8]) -> io::Result<()> {
     let mut ev = [0u16; 65];
     let v = structure::examine::examine(s, &mut ev);
-    printing::text(name);
-    printing::number(number as u64);
-    printing::verdict(v.answer, v.count, &ev, v.count);
+    printing::text(rt, name)?;
+    printing::number(rt, number as u64)?;
+    printing::verdict(rt, v.answer, v.count, &ev, v.count)
 }
 
 // One line: what reading answers.
-fn print_read(name: &[u8], number: usize, s: &[u8]) {
-    printing::text(name);
-    printing::number(number as u64);
+fn print_read(rt: &impl Print, name: &[u8], number: usize, s: &[u8]) -> io::Result<()> {
+    printing::text(rt, name)?;
+    printing::number(rt, number as u64)?;
     match form::whole::whole(s) {
         Step::Stop(f) => {
-            printing::short(f.answer);
-            printing::number(1);
-            printing::short(f.section);
+            printing::short(rt, f.answer)?;
+            printing::number(rt, 1)?;
+            printing::short(rt, f.section)?;
         }
         Step::Next(_) => {
-            printing::number(0);
-            printing::number(0);
+            printing::number(rt, 0)?;
+            printing::number(rt, 0)?;
         }
     }
-    printing::text(b"\n");
+    printing::text(rt, b"\n")
 }
 
-fn print_cuts(s: &[u8]) {
-    let mut k = 0;
-    while k < s.len() {
-        print_examined(b"cut", k, &s[..k]);
-        k += 1;
+fn print_cuts(rt: &impl Print, s: &[u8]) -> io::Result<()> {
+    for k in 0..s.len() {
+        print_examined(rt, b"cut", k, &s[..k])?;
     }
+    Ok(())
 }
 
-fn print_damaged(i: usize)
+fn print_damaged(rt: &impl Print, i: usize) -> io::Result<()>
     requires { i < 102 }
 {
     let mut t = S1;
     t[i] = 255;
-    print_examined(b"byte", i, &t);
+    print_examined(rt, b"byte", i, &t)
 }
 
-fn print_all_damaged() {
-    let mut i = 0;
-    while i < 102 {
-        print_damaged(i);
-        i += 1;
+fn print_all_damaged(rt: &impl Print) -> io::Result<()> {
+    for i in 0..102 {
+        print_damaged(rt, i)?;
     }
+    Ok(())
 }
 
 // One processor with n loads of address 0 by its instruction 0, which is named g times as locked: all bytes but these are 0.
-fn print_limit(name: &[u8], number: usize, n: usize, g: usize)
+fn print_limit(rt: &impl Print, name: &[u8], number: usize, n: usize, g: usize) -> io::Result<()>
     requires { (n ≤ 65) × (g ≤ 17) }
 {
     let mut t = [0u8; 1024];
@@ -75,21 +74,22 @@ fn print_limit(name: &[u8], number: usize, n: usize, g: usize)
     t[6 + 12 * n] = g as u8;
     let nine = 4 + 12 * n + 12 + 4 * g;
     t[nine] = 1;
-    print_part(name, number, &t, nine + 4);
+    print_part(rt, name, number, &t, nine + 4)
 }
 
 // Reads the first k bytes.
-fn print_part(name: &[u8], number: usize, s: &[u8], k: usize) {
+fn print_part(rt: &impl Print, name: &[u8], number: usize, s: &[u8], k: usize) -> io::Result<()> {
     if k <= s.len() {
-        print_read(name, number, &s[..k]);
+        print_read(rt, name, number, &s[..k])?;
     }
+    Ok(())
 }
 
-fn main() {
-    print_cuts(&S1);
-    print_all_damaged();
-    print_limit(b"events", 64, 64, 0);
-    print_limit(b"events", 65, 65, 0);
-    print_limit(b"locked", 16, 64, 16);
-    print_limit(b"locked", 17, 64, 17);
+fn main(rt: HostRuntime) -> io::Result<()> {
+    print_cuts(&rt, &S1)?;
+    print_all_damaged(&rt)?;
+    print_limit(&rt, b"events", 64, 64, 0)?;
+    print_limit(&rt, b"events", 65, 65, 0)?;
+    print_limit(&rt, b"locked", 16, 64, 16)?;
+    print_limit(&rt, b"locked", 17, 64, 17)
 }

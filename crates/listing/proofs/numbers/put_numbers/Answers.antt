@@ -1,0 +1,44 @@
+use mathlib.Core.Path.{◌≡◌}
+use native.Mathlib.Omega.{arith}
+use Rattle.lent.proofs.Puts.{put_nothing, put_length}
+use Rattle.listing.specs.Text.{spaced}
+use Rattle.listing.proofs.Texts.{room_none, room_numbers, numbers_next}
+use Rattle.listing.proofs.numbers.put_numbers.Goals as goal
+
+pub loop-i-init : goal.loop-i-init
+unfolding spaced
+loop-i-init c = let h = c.requires.1 in (omega arith, (put_nothing _ _ (omega arith), omega arith))
+
+pub offset_bounds-list-i : goal.offset_bounds-list-i
+offset_bounds-list-i c = let h = c.requires.0 in omega arith
+
+pub bounds-list-i : goal.bounds-list-i
+bounds-list-i c = let h = c.requires.0 in omega arith
+
+pub overflow_cast-list : goal.overflow_cast-list
+overflow_cast-list c = omega (arith, c.type_inv.list c.loop-i.i)
+
+pub put_number-to-requires : goal.put_number-to-requires
+put_number-to-requires c =
+    let (g, h) = c.requires in
+    let a = c.args in
+    let r = room_numbers a.list.now c.loop-i.i (omega arith) (room_none a.out.now a.at) c.loop-i.invariant.1 in
+    omega arith
+
+pub overflow_add-i : goal.overflow_add-i
+overflow_add-i c = omega arith
+
+pub loop-i-smaller : goal.loop-i-smaller
+loop-i-smaller c = omega arith
+
+pub loop-i-preserved : goal.loop-i-preserved
+loop-i-preserved c =
+    let h = c.requires.0 in
+    let a = c.args in
+    (omega arith, numbers_next _ _ _ a.list.now _ _ _ c.loop-i.i (omega arith) c.loop-i.invariant.1 c.put_number-to.ensures)
+
+pub shape_of-out : goal.shape_of-out
+shape_of-out c = put_length _ _ _ _ c.loop-i.invariant.1.0
+
+pub returns : goal.returns
+returns c = let e : c.loop-i.i ≡ c.args.k = omega arith in rw e at c.loop-i.invariant.1
