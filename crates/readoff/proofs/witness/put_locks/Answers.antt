@@ -54,7 +54,7 @@ pub loop-i-preserved : goal.loop-i-preserved
 loop-i-preserved c = let v = c.loop-i.invariant in
     let p = c.requires in
     elim c.if-has.branch [
-      then-has w ↦ rw (w.EQ1-is, w.EQ2-is, w.EQ3-is) (
+      then-has w ↦ rw (w.to-is, w.out-is, w.left-is) (
       omega arith,
       omega arith,
       omega arith,
@@ -62,7 +62,7 @@ loop-i-preserved c = let v = c.loop-i.invariant in
       λ z y q. listing_more _ _ _ _ _ _ _ q _ _ _ _ _ _ (v.4 z y q) c.loop-i-test.true _ c.num1-e.ensures.0
           (c.has.ensures.holds w.if-has.true) _ w.entry_of-j.ensures _ _ w.row.ensures w.minus-left.ensures (omega arith),
     )
-      | else-has w ↦ rw (w.EQ1-is, w.EQ2-is, w.EQ3-is) (
+      | else-has w ↦ rw (w.to-is, w.out-is, w.left-is) (
       omega arith,
       omega arith,
       omega arith,

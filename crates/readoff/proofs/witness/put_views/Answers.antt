@@ -49,7 +49,7 @@ loop-p-preserved c =
     let m = p.3 in (
       omega arith,
       viewing_next _ _ _ _ _ _ k w s p.1 c.loop-p.p (omega arith) _ _ c.row.ensures c.union.ensures _ _ c.loop-p.invariant.1 _ _
-          c.put_some_lemFIXME.ensures,
+          c.put_some-to.ensures,
     )
 
 pub shape_of-out : goal.shape_of-out
