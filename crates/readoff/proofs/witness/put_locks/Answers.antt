@@ -54,22 +54,22 @@ pub loop-i-preserved : goal.loop-i-preserved
 loop-i-preserved c = let v = c.loop-i.invariant in
     let p = c.requires in
     elim c.if-has.branch [
-      then-has w ↦ rw (w.to-is, w.out-is, w.left-is) (
-      omega arith,
-      omega arith,
-      omega arith,
-      length-set c.loop-i.out c.loop-i.to _ ∙ v.3,
-      λ z y q. listing_more _ _ _ _ _ _ _ q _ _ _ _ _ _ (v.4 z y q) c.loop-i-test.true _ c.num1-e.ensures.0
-          (c.has.ensures.holds w.if-has.true) _ w.entry_of-j.ensures _ _ w.row.ensures w.minus-left.ensures (omega arith),
-    )
+      | then-has w ↦ rw (w.to-is, w.out-is, w.left-is) (
+        omega arith,
+        omega arith,
+        omega arith,
+        length-set c.loop-i.out c.loop-i.to _ ∙ v.3,
+        λ z y q. listing_more _ _ _ _ _ _ _ q _ _ _ _ _ _ (v.4 z y q) c.loop-i-test.true _ c.num1-e.ensures.0
+            (c.has.ensures.holds w.if-has.true) _ w.entry_of-j.ensures _ _ w.row.ensures w.minus-left.ensures (omega arith),
+      )
       | else-has w ↦ rw (w.to-is, w.out-is, w.left-is) (
-      omega arith,
-      omega arith,
-      omega arith,
-      v.3,
-      λ z y q. listing_skip _ _ _ _ _ _ _ q _ _ _ _ _ _ (v.4 z y q) c.loop-i-test.true _ c.num1-e.ensures.0
-          (c.has.ensures.fails w.if-has.false),
-    )
+        omega arith,
+        omega arith,
+        omega arith,
+        v.3,
+        λ z y q. listing_skip _ _ _ _ _ _ _ q _ _ _ _ _ _ (v.4 z y q) c.loop-i-test.true _ c.num1-e.ensures.0
+            (c.has.ensures.fails w.if-has.false),
+      )
     ]
 
 pub overflow_sub-to : goal.overflow_sub-to

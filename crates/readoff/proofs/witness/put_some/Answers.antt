@@ -55,7 +55,7 @@ loop-i-preserved c =
     let b = c.args.b.now in
     let e = n.ensures.0 ∙ num_one b c.loop-i.i in
     elim c.if-has.branch [
-      then-has w ↦ rw (w.to-is, w.out-is) (picking_more _ _ _ _ _ _ _ _ v (omega arith) n.result e (c.has.ensures.holds w.if-has.true) (omega arith))
+      | then-has w ↦ rw (w.to-is, w.out-is) (picking_more _ _ _ _ _ _ _ _ v (omega arith) n.result e (c.has.ensures.holds w.if-has.true) (omega arith))
       | else-has w ↦ rw (w.to-is, w.out-is) (picking_skip _ _ _ _ _ _ _ _ v (omega arith) n.result e (c.has.ensures.fails w.if-has.false))
     ]
 

@@ -1,7 +1,7 @@
 use Prim.Native.Nat.{ℕ}
 use mathlib.Core.List.{List}
 use Rattle.form.specs.Bytes.{num}
-use Prim.Native.Nat.{◌+◌, ◌^◌, ◌≤◌, ◌<◌}
+use Prim.Native.Nat.{◌≤◌, ◌<◌}
 use mathlib.Core.Path.{◌≡◌, ◌∙◌}
 use native.Mathlib.Omega.{arith}
 use lib.ListN.{length, get_or, length-set}
@@ -72,7 +72,7 @@ loop-i-preserved c =
     let v = l.invariant.0.high in
     let h = c.requires.3 in (
       elim c.if-has.branch [
-        then-has+then-w-lt64 w ↦ rw (w.out-is, w.to-is)
+        | then-has+then-w-lt64 w ↦ rw (w.out-is, w.to-is)
             (pairing_more _ _ _ _ _ _ _ _ _ l.invariant.0 less e x _
             (gives_pair _ _ _ _ _ less e x _ u _ d w.if-has.true _ l.invariant.1 _ w.source-w.ensures w.if-w-lt64.true)
             (omega arith))

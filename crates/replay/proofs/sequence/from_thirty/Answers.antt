@@ -22,9 +22,12 @@ pub returns-then-e-lt64 : goal.returns-then-e-lt64
 returns-then-e-lt64 c = let p = c.requires.right in
     let b = p.5 in
     let z = execution_of c.args.s.now in
-    let w = (formed _ p.0).events.within in record { by_index_2 = λ i narrowed size.
+    let w = (formed _ p.0).events.within in record {
+      by_index_2 = λ i narrowed size.
           let hit = wrong_hit z w i _ narrowed size _ p.1.events _ c.full-all.ensures _ c.misplaced-e.ensures in
-          one_shown 30 64 _ _ hit c.if-e-lt64.true _ c.args.ev.now (omega arith); by_index_3 = λ i narrowed size q. absurd (omega arith) }
+          one_shown 30 64 _ _ hit c.if-e-lt64.true _ c.args.ev.now (omega arith);
+      by_index_3 = λ i narrowed size q. absurd (omega arith);
+    }
 
 pub mate-requires : goal.mate-requires
 mate-requires c = let p = c.requires.right in
@@ -47,8 +50,11 @@ from_thirtyone-requires c = let p = c.requires.right in
 pub returns : goal.returns
 returns c = let p = c.requires.right in
     let z = execution_of c.args.s.now in
-    let w = (formed _ p.0).events.within in record { by_index_2 = λ i narrowed size.
+    let w = (formed _ p.0).events.within in record {
+      by_index_2 = λ i narrowed size.
           let order = table_ordered z w i _ narrowed size _ p.1.events _ _ p.4 c.put_order.ensures in
           let line = table_lined z w i _ narrowed size _ p.1.events _ c.full-all.ensures _ c.misplaced-e.ensures c.if-e-lt64.false _ order in
           let kept = event_kept z w i _ narrowed size _ p.1.events _ c.full-all.ensures _ c.misplaced-e.ensures c.if-e-lt64.false in
-          given_next _ _ _ _ _ _ kept (c.from_thirtyone.ensures z i line c.mate.ensures p.3); by_index_3 = λ i narrowed size q. table_ordered z w i _ narrowed size _ p.1.events _ _ p.4 c.put_order.ensures }
+          given_next _ _ _ _ _ _ kept (c.from_thirtyone.ensures z i line c.mate.ensures p.3);
+      by_index_3 = λ i narrowed size q. table_ordered z w i _ narrowed size _ p.1.events _ _ p.4 c.put_order.ensures;
+    }

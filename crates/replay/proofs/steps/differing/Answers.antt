@@ -66,7 +66,7 @@ loop-i-preserved c =
           let (s, f) = c.loop-i.invariant.1 l a e in (
             c.step-state.ensures z l _ c.requires.right.2 c.requires.right.3 g (step_is z l _ a _ h _ r) s,
             none_next _ _ f (elim c.if-has.branch [
-              then-has+else-not-agrees w ↦ differs_not z l _ a _ h _ r {A = Unit {0}} {B = ⊥} (inl tt) (λ v. (w.agrees.ensures l _ s).holds w.if-not-agrees.false) (λ v. absurd v)
+              | then-has+else-not-agrees w ↦ differs_not z l _ a _ h _ r {A = Unit {0}} {B = ⊥} (inl tt) (λ v. (w.agrees.ensures l _ s).holds w.if-not-agrees.false) (λ v. absurd v)
               | else-has w ↦ differs_not z l _ a _ h _ r {A = ⊥} {B = Unit {0}} (inr tt) (λ v. absurd v) (λ v. (read_known z _ c.requires.right.3 _ _ g _ c.union-reads.ensures c.has.ensures).fails w.if-has.false)
             ]),
           ),

@@ -21,12 +21,11 @@ pub loop-a-smaller : goal.loop-a-smaller
 loop-a-smaller c = omega arith
 
 pub loop-a-preserved : goal.loop-a-preserved
-loop-a-preserved c =
-    (
-      omega arith,
-      λ z l b f s p q. none_next _ _ (c.loop-a.invariant.1 z l b f s p q)
-          (λ (k, o). c.any.ensures.fails c.if-any.false (k, (c.against.ensures z l b f s p q).has k o)),
-    )
+loop-a-preserved c = (
+  omega arith,
+  λ z l b f s p q. none_next _ _ (c.loop-a.invariant.1 z l b f s p q)
+      (λ (k, o). c.any.ensures.fails c.if-any.false (k, (c.against.ensures z l b f s p q).has k o)),
+)
 
 pub returns : goal.returns
 returns c z l b f s p q e =
