@@ -1,8 +1,8 @@
 /* Judges the record in a file: prints the answer and its evidence, as the listing's first two lines. Built at the repository's root by
 
-       cc -Wall -Wextra -Iinclude c/judge.c target/staticlib/libreefmitten.a -o judge_c
+       cc -Wall -Wextra -Iinclude c/judge.c crates/reefmitten/out/libreefmitten.a -o judge_c
 
-   once `rt staticlib reefmitten` has proved and built the archive. Ends with 0 where the record was judged, valid or not, and with 2
+   once `rt lib` in crates/reefmitten has proved and built the archive. Ends with 0 where the record was judged, valid or not, and with 2
    where there was nothing to judge or nowhere to print. */
 #include "reefmitten.h"
 

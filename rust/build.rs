@@ -22,13 +22,13 @@ fn main() {
 fn folder() -> PathBuf {
     let package = PathBuf::from(env::var_os("CARGO_MANIFEST_DIR").unwrap_or_default());
     let named = env::var_os("REEFMITTEN_LIB").filter(|name| !name.is_empty());
-    let folder = package.join(named.unwrap_or("../target/staticlib".into()));
+    let folder = package.join(named.unwrap_or("../crates/reefmitten/out".into()));
     folder.canonicalize().unwrap_or(folder)
 }
 
 fn refuse(folder: &Path) -> ! {
     eprintln!("There is no {ARCHIVE} in {}.", folder.display());
-    eprintln!("Run `rt staticlib reefmitten` at the repository's root to prove and build it,");
+    eprintln!("Run `rt lib` in the repository's folder crates/reefmitten to prove and build it,");
     eprintln!("or let REEFMITTEN_LIB name the folder that it is in.");
     exit(1)
 }

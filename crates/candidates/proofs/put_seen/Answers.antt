@@ -7,6 +7,6 @@ loop-e-smaller c = omega (arith, ltb-true)
 
 pub loop-e-preserved : goal.loop-e-preserved
 loop-e-preserved c = elim c.if-sees.branch [
-      then-sees w ↦ rw w.EQ1-is (omega (arith, ltb-true))
-      | else-sees w ↦ rw w.EQ1-is (omega (arith, ltb-true))
-    ]
+  | then-sees w ↦ rw w.rec-is (omega (arith, ltb-true))
+  | else-sees w ↦ rw w.rec-is (omega (arith, ltb-true))
+]

@@ -1,8 +1,10 @@
 use mathlib.Core.Path.{◌≡◌}
 use native.Mathlib.Omega.{arith}
+use lib.ListN.{take}
+use lib.Seq.{length-take-le}
 use Rattle.lent.proofs.Puts.{put_nothing, put_length}
 use Rattle.listing.specs.Text.{spaced}
-use Rattle.listing.proofs.Texts.{room_none, room_numbers, numbers_next}
+use Rattle.listing.proofs.Texts.{spaced_length, numbers_next}
 use Rattle.listing.proofs.numbers.put_numbers.Goals as goal
 
 pub loop-i-init : goal.loop-i-init
@@ -20,10 +22,9 @@ overflow_cast-list c = omega (arith, c.type_inv.list c.loop-i.i)
 
 pub put_number-to-requires : goal.put_number-to-requires
 put_number-to-requires c =
-    let (g, h) = c.requires in
-    let a = c.args in
-    let r = room_numbers a.list.now c.loop-i.i (omega arith) (room_none a.out.now a.at) c.loop-i.invariant.1 in
-    omega arith
+    let i = c.loop-i.i in
+    let l = c.args.list.now in
+    omega (arith, spaced_length (take i l), length-take-le i l (omega arith))
 
 pub overflow_add-i : goal.overflow_add-i
 overflow_add-i c = omega arith
