@@ -5,4 +5,4 @@
 
 pub mod bytes;
 pub mod read_off;
-pub mod witness;
+pub mod sections;

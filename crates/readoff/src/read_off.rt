@@ -13,7 +13,7 @@ ghost use Rattle.readoff.specs.Bytes.{bytes_of};
 ghost use Rattle.readoff.specs.Written.{WrittenOff, ReadOff};
 
 use crate::bytes::put_front;
-use crate::witness::{put_locks, put_some, put_sources, put_views};
+use crate::sections::{put_locks, put_some, put_sources, put_views};
 use facts::Classes;
 use facts::gather::gather;
 use form::Step;

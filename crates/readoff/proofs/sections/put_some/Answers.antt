@@ -3,8 +3,8 @@ use native.Mathlib.Omega.{arith}
 use Rattle.form.proofs.Numbers.{num_one}
 use Rattle.readoff.proofs.Pickings.{picking_none, picking_more, picking_skip, picking_done}
 use Rattle.lent.proofs.Puts.{put_length}
-use Rattle.readoff.proofs.witness.put_some.Goals.{then-has, else-has}
-use Rattle.readoff.proofs.witness.put_some.Goals as goal
+use Rattle.readoff.proofs.sections.put_some.Goals.{then-has, else-has}
+use Rattle.readoff.proofs.sections.put_some.Goals as goal
 
 pub overflow_add-to : goal.overflow_add-to
 overflow_add-to c = let h = c.requires.2 in omega arith

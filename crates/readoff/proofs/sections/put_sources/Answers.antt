@@ -7,8 +7,8 @@ use native.Mathlib.Omega.{arith}
 use lib.ListN.{length, get_or, length-set}
 use Rattle.form.proofs.Numbers.{num_one}
 use Rattle.readoff.proofs.Pairings.{byte_low, step_is, step_low, gives_unread, gives_pair, gives_none, pairing_none, pairing_more, pairing_skip, pairing_done}
-use Rattle.readoff.proofs.witness.put_sources.Goals.{then-has+then-w-lt64, then-has+else-w-lt64, else-has}
-use Rattle.readoff.proofs.witness.put_sources.Goals as goal
+use Rattle.readoff.proofs.sections.put_sources.Goals.{then-has+then-w-lt64, then-has+else-w-lt64, else-has}
+use Rattle.readoff.proofs.sections.put_sources.Goals as goal
 
 -- the event of the byte at i
 event_low : (b q : List ℕ) (i e : ℕ) → e ≡ num 1 b i → get_or b i 0 < 64 → 64 ≤ length q → (e ≡ get_or b i 0) × (e < length q) × (e < 64)

@@ -2,7 +2,7 @@ use mathlib.Core.Path.{◌∙◌}
 use native.Mathlib.Omega.{arith}
 use Rattle.lent.proofs.Puts.{put_length}
 use Rattle.readoff.proofs.Viewings.{viewing_none, viewing_next, viewing_done}
-use Rattle.readoff.proofs.witness.put_views.Goals as goal
+use Rattle.readoff.proofs.sections.put_views.Goals as goal
 
 pub put_count-requires : goal.put_count-requires
 put_count-requires c =

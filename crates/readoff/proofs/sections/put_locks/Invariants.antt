@@ -4,7 +4,7 @@ use mathlib.Core.List.{List}
 use lib.ListN.{length}
 use Rattle.record.specs.Execution.{Execution}
 use Rattle.readoff.proofs.Entries.{Locks, Listing}
-use Rattle.readoff.proofs.witness.put_locks.Given as goal
+use Rattle.readoff.proofs.sections.put_locks.Given as goal
 
 abbrev pub invariant-loop-i : goal.invariant-loop-i
 invariant-loop-i v =

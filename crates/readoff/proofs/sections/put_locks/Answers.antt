@@ -2,8 +2,8 @@ use mathlib.Core.Path.{refl, ◌∙◌}
 use lib.ListN.{length-set}
 use native.Mathlib.Omega.{arith}
 use Rattle.readoff.proofs.Entries.{byte_low, Locks, listing_begin, listing_skip, listing_more, listing_done}
-use Rattle.readoff.proofs.witness.put_locks.Goals.{then-has, else-has}
-use Rattle.readoff.proofs.witness.put_locks.Goals as goal
+use Rattle.readoff.proofs.sections.put_locks.Goals.{then-has, else-has}
+use Rattle.readoff.proofs.sections.put_locks.Goals as goal
 
 pub overflow_add-to : goal.overflow_add-to
 overflow_add-to c = omega arith

@@ -1,6 +1,6 @@
 use native.Mathlib.Omega.{arith}
 use Rattle.order.proofs.Searches.{none_yet, none_next, hit_at, hit_not}
-use Rattle.readoff.proofs.witness.entry_of.Goals as goal
+use Rattle.readoff.proofs.sections.entry_of.Goals as goal
 
 pub loop-i-init : goal.loop-i-init
 loop-i-init c = (omega arith, none_yet _)
