@@ -1,9 +1,9 @@
 -- The model as the HOL specification has it: its types (part II, iid of part I), its axioms (part IV) and the well-formedness of part XIII.
--- The names are its own, with a hyphen for each underscore. Its valid_execution has neither fences nor final states: nothing of it is left out.
+-- The names are its own, and begin with a small letter where they are constructors. Its valid_execution has neither fences nor final states: nothing of it is left out.
 -- An event is its number, and this serves as its eiid: HOL's eiid tells events apart within an instruction only, so this is a renumbering.
 -- Where it matches on an action, the action is said to be of that form.
 -- A set is a predicate; finite is that a number bounds it; restrict is its `|`; bigunion and strict_linearisations are written out where they
--- are used. linear-order, strict-linear-order, strict, acyclic and PER are words of its library.
+-- are used. linear_order, strict_linear_order, strict, acyclic and PER are words of its library.
 use Rattle.std.specs.Prelude.{ℕ, ◌<◌, ◌≡◌, ◌⊎◌, ◌↔◌}
 use Rattle.order.specs.Relation.{Rel, Chain}
 
@@ -37,8 +37,8 @@ pub record EventStructure : Type 1 where
   pub atoms : Set
   pub atomicity : ℕ → Set
 
--- initial-state l v: the initial state of l is SOME v. In HOL it is a partial function, here a relation; of what a record says, no l has two
--- values (`initial-one` in proofs/Sources.antt)
+-- initial_state l v: the initial state of l is SOME v. In HOL it is a partial function, here a relation; of what a record says, no l has two
+-- values (`initial_one` in proofs/Sources.antt)
 pub record ExecutionWitness : Type 1 where
   pub initial_state : Location → ℕ → Type 0
   pub vo : ℕ → Rel
