@@ -1,5 +1,5 @@
 -- The model as the HOL specification has it: its types (part II, iid of part I), its axioms (part IV) and the well-formedness of part XIII.
--- The names are its own, and begin with a small letter where they are constructors. Its valid_execution has neither fences nor final states: nothing of it is left out.
+-- The names are its own; location_reg and location_mem are LOCATION_REG and LOCATION_MEM there. Its valid_execution has neither fences nor final states: nothing of it is left out.
 -- An event is its number, and this serves as its eiid: HOL's eiid tells events apart within an instruction only, so this is a renumbering.
 -- Where it matches on an action, the action is said to be of that form.
 -- A set is a predicate; finite is that a number bounds it; restrict is its `|`; bigunion and strict_linearisations are written out where they
