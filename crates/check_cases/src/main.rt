@@ -3,90 +3,96 @@
 // its words; the order table's answer with room for three words, and these.
 #![tactic(auto)]
 
-use libc::STDIN_FILENO;
+use std::io;
+use std::io::Read;
 
 // Prints the words before the first that is 7, with which the table was filled.
-fn print_words(l: &[u64]) {
-    let mut i = 0;
-    while i < l.len() {
-        if l[i] == 7 {
-            return;
+fn print_words(rt: &impl Print, l: &[u64]) -> io::Result<()> {
+    for x in l {
+        if *x == 7 {
+            return Ok(());
         }
-        printing::number(l[i]);
-        i += 1;
+        printing::number(rt, *x)?;
     }
+    Ok(())
 }
 
-fn print_check(s: &[u8]) {
+fn print_check(rt: &impl Print, s: &[u8]) -> io::Result<()> {
     let mut ev = [9u16; 65];
     let v = judge::check::check(s, &mut ev);
-    printing::text(b"check");
-    printing::verdict(v.answer, v.count, &ev, v.count);
+    printing::text(rt, b"check")?;
+    printing::verdict(rt, v.answer, v.count, &ev, v.count)
 }
 
-fn print_short(s: &[u8]) {
+fn print_short(rt: &impl Print, s: &[u8]) -> io::Result<()> {
     let mut ev = [9u16; 64];
     let v = judge::check::check(s, &mut ev);
-    printing::text(b"short");
-    printing::verdict(v.answer, v.count, &ev, 1);
+    printing::text(rt, b"short")?;
+    printing::verdict(rt, v.answer, v.count, &ev, 1)
 }
 
-fn print_order(s: &[u8]) {
+fn print_order(rt: &impl Print, s: &[u8]) -> io::Result<()> {
     let mut out = [7u64; 64];
     let a = table::order_table(s, &mut out);
-    printing::text(b"order");
-    printing::short(a);
-    print_words(&out);
-    printing::text(b"\n");
+    printing::text(rt, b"order")?;
+    printing::short(rt, a)?;
+    print_words(rt, &out)?;
+    printing::text(rt, b"\n")
 }
 
-fn print_tight(s: &[u8]) {
+fn print_tight(rt: &impl Print, s: &[u8]) -> io::Result<()> {
     let mut out = [7u64; 3];
     let a = table::order_table(s, &mut out);
-    printing::text(b"tight");
-    printing::short(a);
-    print_words(&out);
-    printing::text(b"\n");
+    printing::text(rt, b"tight")?;
+    printing::short(rt, a)?;
+    print_words(rt, &out)?;
+    printing::text(rt, b"\n")
 }
 
-fn print_all(s: &[u8]) {
-    print_check(s);
-    print_short(s);
-    print_order(s);
-    print_tight(s);
+fn print_all(rt: &impl Print, s: &[u8]) -> io::Result<()> {
+    print_check(rt, s)?;
+    print_short(rt, s)?;
+    print_order(rt, s)?;
+    print_tight(rt, s)
 }
 
 // Judges the first k bytes.
-fn print_part(s: &[u8], k: usize) {
+fn print_part(rt: &impl Print, s: &[u8], k: usize) -> io::Result<()> {
     if k <= s.len() {
-        print_all(&s[..k]);
+        print_all(rt, &s[..k])?;
     }
+    Ok(())
 }
 
 // Reads one record and judges it; false at the end.
-fn judge_next(head: &mut [u8], buf: &mut [u8]) -> bool {
-    if io::read_full(STDIN_FILENO, head) < 2 {
-        return false;
+fn judge_next(
+    rt: &impl Print,
+    input: &mut impl Read,
+    head: &mut [u8],
+    buf: &mut [u8],
+) -> io::Result<bool> {
+    if printing::read_full(input, head) < 2 {
+        return Ok(false);
     }
     let k = form::bytes::count_at(head, 0);
     if buf.len() < k {
-        return false;
+        return Ok(false);
     }
-    if io::read_full(STDIN_FILENO, &mut buf[..k]) < k {
-        return false;
+    if printing::read_full(input, &mut buf[..k]) < k {
+        return Ok(false);
     }
-    print_part(buf, k);
-    true
+    print_part(rt, buf, k)?;
+    Ok(true)
 }
 
-fn main() {
-    let mut buf = io::buffer();
+fn main(rt: HostRuntime) -> io::Result<()> {
+    let mut input = rt.stdin();
+    let mut buf = [0u8; 4096];
     let mut head = [0u8; 2];
-    let mut left: usize = 1000000;
-    while 0 < left {
-        if !judge_next(&mut head, &mut buf) {
-            return;
+    for _ in 0..1000000 {
+        if !judge_next(&rt, &mut input, &mut head, &mut buf)? {
+            return Ok(());
         }
-        left -= 1;
     }
+    Ok(())
 }

@@ -1,30 +1,12 @@
 // Prints the listing of the record on standard input, its first 4,096 bytes.
 #![tactic(auto)]
 
-ghost use Rattle.std.specs.Prelude.{◌≤◌, length};
-
 use std::io;
-use std::io::Read;
-
-// Reads until the buffer is full, the input ends or a read fails, and hands back how many bytes it put at the front.
-fn read_part(input: &mut impl Read, buf: &mut [u8]) -> usize
-    ensures { result ≤ length buf.new }
-{
-    let mut k = 0;
-    while k < buf.len() {
-        let n = input.read(&mut buf[k..]).unwrap_or(0);
-        if n == 0 {
-            break;
-        }
-        k += n;
-    }
-    k
-}
 
 // Prints the first k bytes.
 fn print_part(rt: &impl Print, text: &[u8], k: usize) -> io::Result<()> {
     if k <= text.len() {
-        rt.write_all(&text[..k])?;
+        printing::text(rt, &text[..k])?;
     }
     Ok(())
 }
@@ -41,6 +23,6 @@ fn list_part(rt: &impl Print, s: &[u8], k: usize) -> io::Result<()> {
 
 fn main(rt: HostRuntime) -> io::Result<()> {
     let mut buf = [0u8; 4096];
-    let k = read_part(&mut rt.stdin(), &mut buf);
+    let k = printing::read_full(&mut rt.stdin(), &mut buf);
     list_part(&rt, &buf, k)
 }

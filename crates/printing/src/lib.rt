@@ -1,8 +1,26 @@
-// Output of the programs that the gate runs: text, numbers, lists and verdicts, on standard output.
-// Promises nothing about values: each function ends and stays within what it is lent.
+// Input and output of the programs that the gate runs: bytes from standard input; text, numbers, lists and verdicts on standard output.
+// Promises nothing about values: each function ends and stays within what it is lent. A failed write is handed back as its error.
 #![tactic(auto)]
 
+ghost use Rattle.std.specs.Prelude.{◌≤◌, length};
+
 use std::io;
+use std::io::Read;
+
+// Reads until the buffer is full, the input ends or a read fails, and hands back how many bytes stand at the buffer's front.
+pub fn read_full(input: &mut impl Read, buf: &mut [u8]) -> usize
+    ensures { result ≤ length buf.new }
+{
+    let mut k = 0;
+    while k < buf.len() {
+        let n = input.read(&mut buf[k..]).unwrap_or(0);
+        if n == 0 {
+            break;
+        }
+        k += n;
+    }
+    k
+}
 
 // Prints the bytes as they are.
 pub fn text(rt: &impl Print, s: &[u8]) -> io::Result<()> {

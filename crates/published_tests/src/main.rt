@@ -3,22 +3,23 @@
 #![tactic(auto)]
 
 use candidates::Tally;
-use libc::STDIN_FILENO;
+use std::io;
 
 mod structures;
 mod text;
 
 // Prints the bytes from `from` to before `to`.
-fn print_part(s: &[u8], from: usize, to: usize) {
+fn print_part(rt: &impl Print, s: &[u8], from: usize, to: usize) -> io::Result<()> {
     if from <= to && to <= s.len() {
-        printing::text(&s[from..to]);
+        printing::text(rt, &s[from..to])?;
     }
+    Ok(())
 }
 
 // Prints the k-th word of the line at i.
-fn print_word(s: &[u8], i: usize, k: usize) {
+fn print_word(rt: &impl Print, s: &[u8], i: usize, k: usize) -> io::Result<()> {
     let from = text::word(s, i, k);
-    print_part(s, from, text::word_end(s, from));
+    print_part(rt, s, from, text::word_end(s, from))
 }
 
 // Whether the outcome was found allowed, where the paper says so, and forbidden where it says that.
@@ -33,24 +34,24 @@ fn agrees(s: &[u8], i: usize, t: Tally) -> bool {
     paper == b'f'
 }
 
-fn print_found(t: Tally) {
+fn print_found(rt: &impl Print, t: Tally) -> io::Result<()> {
     if t.open {
-        printing::text(b" open ");
+        printing::text(rt, b" open ")
     } else if 0 < t.valid {
-        printing::text(b" allowed ");
+        printing::text(rt, b" allowed ")
     } else {
-        printing::text(b" forbidden ");
+        printing::text(rt, b" forbidden ")
     }
 }
 
 // Prints what was found of the test that the line at i begins.
-fn print_test(s: &[u8], i: usize, t: Tally) {
-    print_word(s, i, 1);
-    printing::number(t.judged);
-    printing::number(t.valid);
-    print_found(t);
-    print_word(s, i, 2);
-    printing::text(b"\n");
+fn print_test(rt: &impl Print, s: &[u8], i: usize, t: Tally) -> io::Result<()> {
+    print_word(rt, s, i, 1)?;
+    printing::number(rt, t.judged)?;
+    printing::number(rt, t.valid)?;
+    print_found(rt, t)?;
+    print_word(rt, s, i, 2)?;
+    printing::text(rt, b"\n")
 }
 
 // Runs the test that the line at i begins.
@@ -74,14 +75,14 @@ fn run(s: &[u8], i: usize) -> Tally {
 }
 
 // Runs the tests and says how many there were, and how many came out as published.
-fn run_all(s: &[u8]) {
+fn run_all(rt: &impl Print, s: &[u8]) -> io::Result<()> {
     let mut tests: u64 = 0;
     let mut agreed: u64 = 0;
     let mut i: usize = 0;
     while i < s.len() {
         if text::letter(s, i) == b't' {
             let t = run(s, i);
-            print_test(s, i, t);
+            print_test(rt, s, i, t)?;
             tests = std::num::wrapping_add_u64(tests, 1);
             if agrees(s, i, t) {
                 agreed = std::num::wrapping_add_u64(agreed, 1);
@@ -89,21 +90,22 @@ fn run_all(s: &[u8]) {
         }
         i = text::next_line(s, i);
     }
-    printing::decimal(tests);
-    printing::text(b" tests,");
-    printing::number(agreed);
-    printing::text(b" as published\n");
+    printing::decimal(rt, tests)?;
+    printing::text(rt, b" tests,")?;
+    printing::number(rt, agreed)?;
+    printing::text(rt, b" as published\n")
 }
 
 // Runs the tests in the first k bytes.
-fn run_part(s: &[u8], k: usize) {
+fn run_part(rt: &impl Print, s: &[u8], k: usize) -> io::Result<()> {
     if k <= s.len() {
-        run_all(&s[..k]);
+        run_all(rt, &s[..k])?;
     }
+    Ok(())
 }
 
-fn main() {
+fn main(rt: HostRuntime) -> io::Result<()> {
     let mut s = [0u8; 16384];
-    let k = io::read_full(STDIN_FILENO, &mut s);
-    run_part(&s, k);
+    let k = printing::read_full(&mut rt.stdin(), &mut s);
+    run_part(&rt, &s, k)
 }

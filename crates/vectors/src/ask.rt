@@ -3,44 +3,21 @@
 use crate::{input, tally};
 use reader::Item;
 use record::Verdict;
+use std::io::Read;
 
 // ---- buffers that are the same
 
 fn same_shorts(x: &[u16; 80], y: &[u16; 80]) -> bool {
-    let mut i: usize = 0;
-    while i < 80 {
-        if x[i] != y[i] {
-            return false;
-        }
-        i += 1;
-    }
-    true
+    x == y
 }
 
 fn same_words(x: &[u64; 70], y: &[u64; 70]) -> bool {
-    let mut i: usize = 0;
-    while i < 70 {
-        if x[i] != y[i] {
-            return false;
-        }
-        i += 1;
-    }
-    true
+    x == y
 }
 
 // Whether x is as long as the part of y that ends at k, and the same.
 fn same_bytes(x: &[u8], y: &[u8], k: usize) -> bool {
-    if x.len() != k || y.len() < k {
-        return false;
-    }
-    let mut i: usize = 0;
-    while i < k {
-        if x[i] != y[i] {
-            return false;
-        }
-        i += 1;
-    }
-    true
+    k <= y.len() && x == &y[..k]
 }
 
 // ---- the check and the replay
@@ -68,30 +45,36 @@ fn replay(s: &[u8], list: &[u16], m: usize, evidence: &mut [u16], room: usize) -
 }
 
 // Holds what came out to what is expected next.
-fn hold(v: Verdict, evidence: &[u16; 80], operation: usize, sums: &mut [u64; 448]) {
-    let answer = input::short();
-    let k = input::number();
+fn hold(
+    input: &mut impl Read,
+    v: Verdict,
+    evidence: &[u16; 80],
+    operation: usize,
+    sums: &mut [u64; 448],
+) {
+    let answer = input::short(input);
+    let k = input::number(input);
     let mut due = [48879u16; 80];
-    input::shorts(&mut due, k);
+    input::shorts(input, &mut due, k);
     let right = v.answer == answer && v.count == k && same_shorts(evidence, &due);
     tally::count(sums, operation, answer, right);
 }
 
-fn ask_check(s: &[u8], sums: &mut [u64; 448]) {
-    let room = input::number();
+fn ask_check(input: &mut impl Read, s: &[u8], sums: &mut [u64; 448]) {
+    let room = input::number(input);
     let mut evidence = [48879u16; 80];
     let v = check(s, &mut evidence, room);
-    hold(v, &evidence, 1, sums);
+    hold(input, v, &evidence, 1, sums);
 }
 
-fn ask_replay(s: &[u8], sums: &mut [u64; 448]) {
-    let m = input::number();
+fn ask_replay(input: &mut impl Read, s: &[u8], sums: &mut [u64; 448]) {
+    let m = input::number(input);
     let mut list = [0u16; 80];
-    input::shorts(&mut list, m);
-    let room = input::number();
+    input::shorts(input, &mut list, m);
+    let room = input::number(input);
     let mut evidence = [48879u16; 80];
     let v = replay(s, &list, m, &mut evidence, room);
-    hold(v, &evidence, 2, sums);
+    hold(input, v, &evidence, 2, sums);
 }
 
 // ---- the read-off
@@ -107,17 +90,17 @@ fn read_off(s: &[u8], list: &[u16], m: usize, out: &mut [u8], room: usize) -> Ve
     }
 }
 
-fn ask_read_off(s: &[u8], sums: &mut [u64; 448]) {
-    let m = input::number();
+fn ask_read_off(input: &mut impl Read, s: &[u8], sums: &mut [u64; 448]) {
+    let m = input::number(input);
     let mut list = [0u16; 80];
-    input::shorts(&mut list, m);
-    let room = input::number();
+    input::shorts(input, &mut list, m);
+    let room = input::number(input);
     let mut out = [165u8; 2400];
     let v = read_off(s, &list, m, &mut out, room);
-    let answer = input::short();
-    let k = input::number();
+    let answer = input::short(input);
+    let k = input::number(input);
     let mut due = [165u8; 2400];
-    input::bytes(&mut due, k);
+    input::bytes(input, &mut due, k);
     let right = v.answer == answer && v.count == k && same_bytes(&out, &due, 2400);
     tally::count(sums, 3, answer, right);
 }
@@ -132,27 +115,27 @@ fn order_table(s: &[u8], table: &mut [u64], room: usize) -> u16 {
     }
 }
 
-fn ask_table(s: &[u8], sums: &mut [u64; 448]) {
-    let room = input::number();
+fn ask_table(input: &mut impl Read, s: &[u8], sums: &mut [u64; 448]) {
+    let room = input::number(input);
     let mut table = [11936128518282651045u64; 70];
     let given = order_table(s, &mut table, room);
-    let answer = input::short();
-    let k = input::number();
+    let answer = input::short(input);
+    let k = input::number(input);
     let mut due = [11936128518282651045u64; 70];
-    input::words(&mut due, k);
+    input::words(input, &mut due, k);
     tally::count(sums, 4, answer, given == answer && same_words(&table, &due));
 }
 
 // ---- the view question and the reader
 
-fn ask_view(s: &[u8], sums: &mut [u64; 448]) {
-    let p = input::short();
+fn ask_view(input: &mut impl Read, s: &[u8], sums: &mut [u64; 448]) {
+    let p = input::short(input);
     let mut given: u16 = 64;
     let part = record::view::view(s, p, &mut given);
-    let answer = input::short();
-    let k = input::number();
+    let answer = input::short(input);
+    let k = input::number(input);
     let mut due = [0u8; 64];
-    input::bytes(&mut due, k);
+    input::bytes(input, &mut due, k);
     tally::count(
         sums,
         5,
@@ -162,14 +145,13 @@ fn ask_view(s: &[u8], sums: &mut [u64; 448]) {
 }
 
 // Whether the next k entries of the part are the expected ones, and then there is none.
-fn same_items(part: &[u8], k: usize) -> bool {
+fn same_items(input: &mut impl Read, part: &[u8], k: usize) -> bool {
     let mut right = true;
     let mut at: usize = 0;
-    let mut i: usize = 0;
-    while i < k {
-        let section = input::short();
-        let place = input::number();
-        let length = input::number();
+    for _ in 0..k {
+        let section = input::short(input);
+        let place = input::number(input);
+        let length = input::number(input);
         match reader::item_at(part, at) {
             Item::Entry {
                 section: q,
@@ -182,37 +164,34 @@ fn same_items(part: &[u8], k: usize) -> bool {
                 right = false;
             }
         }
-        at = std::num::wrapping_add_usize(place, length);
-        i += 1;
+        at = place.wrapping_add(length);
     }
     match reader::item_at(part, at) {
-        Item::Entry {
-            section: q,
-            at: from,
-            len,
-        } => false,
+        Item::Entry { .. } => false,
         Item::Done => right,
     }
 }
 
-fn ask_reader(s: &[u8], sums: &mut [u64; 448]) {
+fn ask_reader(input: &mut impl Read, s: &[u8], sums: &mut [u64; 448]) {
     let mut given: u16 = 64;
     let part = reader::opened(s, &mut given);
-    let answer = input::short();
-    let k = input::number();
-    let right = same_items(part, k);
+    let answer = input::short(input);
+    let k = input::number(input);
+    let right = same_items(input, part, k);
     tally::count(sums, 6, answer, given == answer && right);
 }
 
 // Asks the next question.
-pub fn ask(s: &[u8], sums: &mut [u64; 448]) {
-    match input::byte() {
-        1 => ask_check(s, sums),
-        2 => ask_replay(s, sums),
-        3 => ask_read_off(s, sums),
-        4 => ask_table(s, sums),
-        5 => ask_view(s, sums),
-        6 => ask_reader(s, sums),
-        _ => tally::count(sums, 0, 64, false),
+pub fn ask(input: &mut impl Read, s: &[u8], sums: &mut [u64; 448]) {
+    match input::byte(input) {
+        1 => ask_check(input, s, sums),
+        2 => ask_replay(input, s, sums),
+        3 => ask_read_off(input, s, sums),
+        4 => ask_table(input, s, sums),
+        5 => ask_view(input, s, sums),
+        6 => ask_reader(input, s, sums),
+        _ => {
+            tally::count(sums, 0, 64, false);
+        }
     }
 }

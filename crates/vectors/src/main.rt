@@ -6,46 +6,45 @@
 // asked with, the answer, the count, and as many entries. Before a call all entries have a mark; those behind the count keep it.
 #![tactic(auto)]
 
-use libc::STDIN_FILENO;
+use printing::read_full;
+use std::io;
+use std::io::Read;
 
 mod ask;
 mod input;
 mod tally;
 
 // Asks the k questions about the record that are next.
-fn ask_all(s: &[u8], k: usize, sums: &mut [u64; 448]) {
-    let mut i: usize = 0;
-    while i < k {
-        ask::ask(s, sums);
-        i += 1;
+fn ask_all(input: &mut impl Read, s: &[u8], k: usize, sums: &mut [u64; 448]) {
+    for _ in 0..k {
+        ask::ask(input, s, sums);
     }
 }
 
 // Reads a record into the buffer and asks what is asked about it; false at the end.
-fn ask_next(record: &mut [u8], sums: &mut [u64; 448]) -> bool {
+fn ask_next(input: &mut impl Read, record: &mut [u8], sums: &mut [u64; 448]) -> bool {
     let mut two = [0u8; 2];
-    if io::read_full(STDIN_FILENO, &mut two) < 2 {
+    if read_full(input, &mut two) < 2 {
         return false;
     }
     let k = form::bytes::count_at(&two, 0);
     if record.len() < k {
         return false;
     }
-    io::read_full(STDIN_FILENO, &mut record[..k]);
-    let questions = input::number();
-    ask_all(&record[..k], questions, sums);
+    read_full(input, &mut record[..k]);
+    let questions = input::number(input);
+    ask_all(input, &record[..k], questions, sums);
     true
 }
 
-fn main() {
+fn main(rt: HostRuntime) -> io::Result<()> {
+    let mut input = rt.stdin();
     let mut record = [0u8; 4096];
     let mut sums = [0u64; 448];
-    let mut left: usize = 1000000;
-    while 0 < left {
-        if !ask_next(&mut record, &mut sums) {
-            tally::print(&sums);
-            return;
+    for _ in 0..1000000 {
+        if !ask_next(&mut input, &mut record, &mut sums) {
+            return tally::print(&rt, &sums);
         }
-        left -= 1;
     }
+    Ok(())
 }

@@ -2,9 +2,11 @@
 // the questions that were answered otherwise than expected, and 1 all.
 ghost use Rattle.std.specs.Prelude.{◌≤◌};
 
+use std::io;
+
 fn one_more(sums: &mut [u64; 448], i: usize) {
     if i < 448 {
-        sums[i] = std::num::wrapping_add_u64(sums[i], 1);
+        sums[i] = sums[i].wrapping_add(1);
     }
 }
 
@@ -19,36 +21,35 @@ pub fn count(sums: &mut [u64; 448], operation: usize, answer: u16, right: bool) 
     }
 }
 
-fn print_line(name: &[u8], answer: u64, often: u64) {
-    printing::text(name);
-    printing::number(answer);
-    printing::number(often);
-    printing::text(b"\n");
+fn print_line(rt: &impl Print, name: &[u8], answer: u64, often: u64) -> io::Result<()> {
+    printing::text(rt, name)?;
+    printing::number(rt, answer)?;
+    printing::number(rt, often)?;
+    printing::text(rt, b"\n")
 }
 
 // The lines of an operation, whose sums stand from `from` on.
-fn print_lines(sums: &[u64; 448], name: &[u8], from: usize)
+fn print_lines(rt: &impl Print, sums: &[u64; 448], name: &[u8], from: usize) -> io::Result<()>
     requires { from ≤ 384 }
 {
-    let mut a: usize = 0;
-    while a < 64 {
+    for a in 0..64 {
         let often = sums[from + a];
         if 0 < often {
-            print_line(name, a as u64, often);
+            print_line(rt, name, a as u64, often)?;
         }
-        a += 1;
     }
+    Ok(())
 }
 
-pub fn print(sums: &[u64; 448]) {
-    print_lines(sums, b"check", 64);
-    print_lines(sums, b"replay", 128);
-    print_lines(sums, b"read-off", 192);
-    print_lines(sums, b"order-table", 256);
-    print_lines(sums, b"view", 320);
-    print_lines(sums, b"reader", 384);
-    printing::decimal(sums[1]);
-    printing::text(b" cases,");
-    printing::number(sums[0]);
-    printing::text(b" differ\n");
+pub fn print(rt: &impl Print, sums: &[u64; 448]) -> io::Result<()> {
+    print_lines(rt, sums, b"check", 64)?;
+    print_lines(rt, sums, b"replay", 128)?;
+    print_lines(rt, sums, b"read-off", 192)?;
+    print_lines(rt, sums, b"order-table", 256)?;
+    print_lines(rt, sums, b"view", 320)?;
+    print_lines(rt, sums, b"reader", 384)?;
+    printing::decimal(rt, sums[1])?;
+    printing::text(rt, b" cases,")?;
+    printing::number(rt, sums[0])?;
+    printing::text(rt, b" differ\n")
 }
