@@ -1,7 +1,7 @@
 /* The stack of each operation on a record, in bytes: stack FILE. The list of the replay and of the read-off is the events as they are
    numbered. The stack below the caller is filled with a mark, the operation is called, and the deepest byte that changed is looked for.
 
-   (cd crates/reefmitten && rt lib) && cc -O1 -Iinclude c/stack.c crates/reefmitten/out/libreefmitten.a -o target/stack */
+   (cd crates/reefmitten && rt lib) && mkdir -p target && cc -O1 -Iinclude c/stack.c crates/reefmitten/out/libreefmitten.a -o target/stack */
 #include "reefmitten.h"
 #include <stdio.h>
 #include <string.h>

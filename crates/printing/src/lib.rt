@@ -1,5 +1,5 @@
 // Input and output of the programs that the gate runs: bytes from standard input; text, numbers, lists and verdicts on standard output.
-// Promises nothing about values: each function ends and stays within what it is lent. A failed write is handed back as its error.
+// Promises nothing about the bytes: each function ends and stays within what it is lent. A failed write is handed back as its error.
 #![tactic(auto)]
 
 ghost use Rattle.std.specs.Prelude.{◌≤◌, length};
