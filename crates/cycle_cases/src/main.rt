@@ -92,50 +92,35 @@ fn print_order(rt: &impl Print) -> io::Result<()> {
     printing::text(rt, b"\n")
 }
 
+// No cycle, and cycles of one event or two.
+fn print_short_cycles(rt: &impl Print) -> io::Result<()> {
+    print_case(rt, b"no events", 0, b"", b"")?;
+    print_case(rt, b"no steps", 9, b"", b"")?;
+    print_case(rt, b"a step to itself", 4, b"01 12 22", b" 2")?;
+    print_case(rt, b"a step to itself after two", 4, b"01 10 33", b" 3")?;
+    print_case(rt, b"there and back", 4, b"13 31", b" 1 3")?;
+    print_case(rt, b"two of equal length", 5, b"23 32 14 41", b" 1 4")?;
+    print_case(rt, b"two from one event", 4, b"03 30 02 20", b" 0 2")
+}
+
+// Which of several cycles is shown, and steps that close none.
+fn print_longer_ways(rt: &impl Print) -> io::Result<()> {
+    let least = b"three, the least not first";
+    let shorter = b"the shorter, not the lower";
+    let late = b"two that part late";
+    let lost = b"a way that does not return";
+    let slot = b"slot case S2 for processor 1";
+    print_case(rt, least, 6, b"53 34 45", b" 3 4 5")?;
+    print_case(rt, shorter, 5, b"01 12 20 34 43", b" 3 4")?;
+    print_case(rt, late, 6, b"01 12 13 24 34 40", b" 0 1 2 4")?;
+    print_case(rt, lost, 4, b"01 13 02 20", b" 0 2")?;
+    print_case(rt, b"a cycle past the last event", 3, b"01 13 30", b"")?;
+    print_case(rt, slot, 4, b"01 23 02 20 30", b" 0 2")
+}
+
 fn main(rt: HostRuntime) -> io::Result<()> {
-    print_case(&rt, b"no events", 0, b"", b"")?;
-    print_case(&rt, b"no steps", 9, b"", b"")?;
-    print_case(&rt, b"a step to itself", 4, b"01 12 22", b" 2")?;
-    print_case(&rt, b"a step to itself after two", 4, b"01 10 33", b" 3")?;
-    print_case(&rt, b"there and back", 4, b"13 31", b" 1 3")?;
-    print_case(&rt, b"two of equal length", 5, b"23 32 14 41", b" 1 4")?;
-    print_case(&rt, b"two from one event", 4, b"03 30 02 20", b" 0 2")?;
-    print_case(
-        &rt,
-        b"three, the least not first",
-        6,
-        b"53 34 45",
-        b" 3 4 5",
-    )?;
-    print_case(
-        &rt,
-        b"the shorter, not the lower",
-        5,
-        b"01 12 20 34 43",
-        b" 3 4",
-    )?;
-    print_case(
-        &rt,
-        b"two that part late",
-        6,
-        b"01 12 13 24 34 40",
-        b" 0 1 2 4",
-    )?;
-    print_case(
-        &rt,
-        b"a way that does not return",
-        4,
-        b"01 13 02 20",
-        b" 0 2",
-    )?;
-    print_case(&rt, b"a cycle past the last event", 3, b"01 13 30", b"")?;
-    print_case(
-        &rt,
-        b"slot case S2 for processor 1",
-        4,
-        b"01 23 02 20 30",
-        b" 0 2",
-    )?;
+    print_short_cycles(&rt)?;
+    print_longer_ways(&rt)?;
     print_ring(&rt)?;
     print_order(&rt)
 }

@@ -1,23 +1,26 @@
 // Input and output of the programs that the gate runs: bytes from standard input; text, numbers, lists and verdicts on standard output.
-// Promises nothing about the bytes: each function ends and stays within what it is lent. A failed write is handed back as its error.
+// Promises that what is read stands at the front of the buffer, and nothing about what is printed: each function ends and stays within
+// what it is lent. A failed read ends the input; a failed write is handed back as its error.
 #![tactic(auto)]
 
-ghost use Rattle.std.specs.Prelude.{◌≤◌, length};
+ghost use Rattle.std.specs.Prelude.{◌≤◌, length, take};
+ghost use Rattle.std.specs.Io.KnownBytes.{Consumes};
 
 use std::io;
 use std::io::Read;
 
-// Reads until the buffer is full, the input ends or a read fails, and hands back how many bytes stand at the buffer's front.
-pub fn read_full(input: &mut impl Read, buf: &mut [u8]) -> usize
-    ensures { result ≤ length buf.new }
+// Reads until the buffer is full, the input ends or a read fails, and hands back how many bytes stand at the buffer's front: those that
+// the input then has no longer.
+pub fn read_full<R: Read>(input: &mut R, buf: &mut [u8]) -> usize
+    ensures within { result ≤ length buf.new }
+    ensures bytes { Consumes (R.remaining input.old) (R.remaining input.new) (take result buf.new) }
 {
     let mut k = 0;
     while k < buf.len() {
-        let n = input.read(&mut buf[k..]).unwrap_or(0);
-        if n == 0 {
-            break;
+        match input.read(&mut buf[k..]) {
+            Ok(n) if 0 < n => k += n,
+            _ => break,
         }
-        k += n;
     }
     k
 }

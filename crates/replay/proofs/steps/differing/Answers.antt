@@ -1,9 +1,12 @@
-use mathlib.Core.Logic.{inl, inr}
+use mathlib.Core.Logic.{◌⊎◌, inl, inr}
 use Prim.Native.Nat.{◌<◌}
 use lib.ListN.{length}
 use native.Mathlib.Omega.{arith}
 use Rattle.order.proofs.Searches.{none_yet, none_next, hit_at, hit_not}
 use Rattle.record.specs.Says.{execution_of}
+use Rattle.model.specs.Model.{Reads}
+use Rattle.sequences.specs.ReadOff.{event}
+use Rattle.sequences.specs.Sequence.{Holds}
 use Rattle.replay.proofs.Stating.{read_known}
 use Rattle.replay.proofs.Values.{step_is, step_low, differs_is, differs_not}
 use Rattle.replay.proofs.steps.differing.Goals.{then-has+else-not-agrees, else-has}
@@ -60,15 +63,17 @@ pub loop-i-preserved : goal.loop-i-preserved
 loop-i-preserved c =
     let z = execution_of c.args.s.now in
     let r = c.num1-e.ensures.0 in
-    let g = (step_low _ c.requires.right.0 _ _ c.requires.by_index _ c.loop-i-test.true _ r).0 in (
+    let g = (step_low _ c.requires.right.0 _ _ c.requires.by_index _ c.loop-i-test.true _ r).0 in
+    let x = event z c.num1-e.result in (
       omega arith,
       λ l a e. let h : c.loop-i.i < length l = omega arith in
-          let (s, f) = c.loop-i.invariant.1 l a e in (
+          let (s, f) = c.loop-i.invariant.1 l a e in
+          let known : Holds z l c.loop-i.i c.num1-e.result x.value ⊎ (Reads x → ⊥) = elim c.if-has.branch [
+            | then-has+else-not-agrees w ↦ inl ((w.agrees.ensures l _ s).holds w.if-not-agrees.false)
+            | else-has w ↦ inr ((read_known z _ c.requires.right.3 _ _ g _ c.union-reads.ensures c.has.ensures).fails w.if-has.false)
+          ] in (
             c.step-state.ensures z l _ c.requires.right.2 c.requires.right.3 g (step_is z l _ a _ h _ r) s,
-            none_next _ _ f (elim c.if-has.branch [
-              | then-has+else-not-agrees w ↦ differs_not z l _ a _ h _ r {A = Unit {0}} {B = ⊥} (inl tt) (λ v. (w.agrees.ensures l _ s).holds w.if-not-agrees.false) (λ v. absurd v)
-              | else-has w ↦ differs_not z l _ a _ h _ r {A = ⊥} {B = Unit {0}} (inr tt) (λ v. absurd v) (λ v. (read_known z _ c.requires.right.3 _ _ g _ c.union-reads.ensures c.has.ensures).fails w.if-has.false)
-            ]),
+            none_next _ _ f (differs_not z l _ a _ h _ r known (λ v. v) (λ v. v)),
           ),
     )
 
