@@ -5,24 +5,23 @@ use mathlib.Core.List.{List, [], ◌∷◌}
 use mathlib.Core.Bool.{Bool, true, false}
 use lib.ListN.{length}
 use lib.Dec.{leb, ltb, eqb, lit≤}
+use Rattle.std.specs.Prelude.{Ok, Err}
 use Rattle.form.specs.Bytes.{num}
 use Rattle.form.specs.Form.{Field, width, limit, due, fields_from, fields, entry, entries, block, sections, views}
 use Rattle.form.specs.Place.{counts}
-use Rattle.form.specs.Steps.{pick, and_then, run, upto}
+use Rattle.form.specs.Steps.{Step, pick, and_then, run, upto}
 use Rattle.form.specs.Whole.{head, tail, body, whole}
 use Rattle.form.specs.declared.Counts.{Counts}
 use Rattle.form.specs.declared.Fault.{Fault}
-use Rattle.form.specs.declared.Step.{Step}
-use Rattle.form.specs.declared.Step.TheVariants.{Next, Stop}
 
 -- no fault, or one with an answer from 2 to 5
 abbrev pub Fair : Step → Type 0
-Fair (Next at) = Unit {0}
-Fair (Stop f) = (2 ≤ f.answer) × (f.answer ≤ 5)
+Fair (Ok at) = Unit {0}
+Fair (Err f) = (2 ≤ f.answer) × (f.answer ≤ 5)
 
 fair_then : (x : Step) (f : ℕ → Step) → Fair x → ((a : ℕ) → Fair (f a)) → Fair (and_then x f)
-fair_then (Next a) f h g = g a
-fair_then (Stop z) f h g = h
+fair_then (Ok a) f h g = g a
+fair_then (Err z) f h g = h
 
 fair_pick : (b : Bool) (x y : Step) → Fair x → Fair y → Fair (pick b x y)
 fair_pick true x y h g = h
@@ -81,5 +80,5 @@ pub fair_whole : (s : List ℕ) → Fair (whole s)
 unfolding whole
 fair_whole s = fair_then (head s) _ (fair_head s) (fair_body (counts s) s)
 
-pub stop_answer : (s : List ℕ) (f : Fault) → whole s ≡ Stop f → (2 ≤ f.answer) × (f.answer ≤ 5)
+pub stop_answer : (s : List ℕ) (f : Fault) → whole s ≡ Err f → (2 ≤ f.answer) × (f.answer ≤ 5)
 stop_answer s f e = subst Fair e (fair_whole s)

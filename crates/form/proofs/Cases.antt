@@ -3,12 +3,12 @@ use Prim.Native.Nat.{ℕ}
 use mathlib.Core.Path.{◌≡◌, refl}
 use mathlib.Core.List.{List, [], ◌∷◌}
 use lib.ListN.{replicate}
+use Rattle.std.specs.Prelude.{Ok}
 use Rattle.form.specs.Bytes.{num}
 use Rattle.form.specs.Steps.{stop, run, upto}
 use Rattle.form.specs.Form.{width, limit, due, place_right, owner_right, event_fields, pair_fields, lock_fields, initial_fields, one_field, fields, entry, entries, block, sections, views}
 use Rattle.form.specs.Place.{start, count, counts}
 use Rattle.form.specs.Whole.{head, tail, body, whole}
-use Rattle.form.specs.declared.Step.TheVariants.{Next}
 
 -- slot case S1
 unfoldable pub s1 : List ℕ
@@ -25,11 +25,11 @@ s1 =
     ∷ 2 ∷ 0 ∷ 3 ∷ 0 ∷ 0 ∷ 1 ∷ 2 ∷ 3 ∷ 0 ∷ 2 ∷ 3 ∷ 0
     ∷ []
 
-pub s1_reads : whole s1 ≡ Next 102
+pub s1_reads : whole s1 ≡ Ok 102
 unfolding s1 num run upto width limit due place_right owner_right event_fields pair_fields lock_fields initial_fields one_field fields entry entries block sections views start count counts head tail body whole
 s1_reads = refl
 
-pub zeros_read : whole (1 ∷ replicate 17 0) ≡ Next 18
+pub zeros_read : whole (1 ∷ replicate 17 0) ≡ Ok 18
 unfolding num run upto width limit due place_right owner_right event_fields pair_fields lock_fields initial_fields one_field fields entry entries block sections views start count counts head tail body whole
 zeros_read = refl
 

@@ -1,8 +1,8 @@
 -- Numbers of two and four bytes, put together from shorter ones.
-use Prim.Native.Nat.{ℕ, ◌+◌, ◌*◌, ◌/◌, ◌%◌, ◌<◌, ◌≤◌}
-use mathlib.Core.Path.{◌≡◌, ◌∙◌}
+use Prim.Native.Nat.{ℕ, ◌+◌, ◌*◌, ◌/◌, ◌%◌, ◌<◌}
+use mathlib.Core.Path.{◌≡◌}
 use mathlib.Core.List.{List}
-use lib.ListN.{get_or, length, get_or-eq_default}
+use lib.ListN.{get_or}
 use native.Mathlib.Nat.{add-zero, add_assoc}
 use native.Mathlib.Omega.{arith}
 use Rattle.form.specs.Bytes.{num}
@@ -11,17 +11,9 @@ pub num_one : (s : List ℕ) (at : ℕ) → num 1 s at ≡ get_or s at 0
 unfolding num
 num_one s at = add-zero _
 
--- past the end
-pub num_none : (s : List ℕ) (at : ℕ) → length s ≤ at → num 1 s at ≡ 0
-num_none s at h = num_one s at ∙ get_or-eq_default s 0 h
-
 pub num_two : (s : List ℕ) (at : ℕ) → num 2 s at ≡ num 1 s at + 256 * num 1 s (at + 1)
 unfolding num
 num_two s at = simp add-zero
-
-pub num_four : (s : List ℕ) (at : ℕ) → num 4 s at ≡ num 2 s at + 65536 * num 2 s (at + 2)
-unfolding num
-num_four s at = simp (add-zero, add_assoc) (omega arith)
 
 -- the number of four bytes, and what its parts are
 pub num_parts : (s : List ℕ) (at : ℕ) → ((i : ℕ) → get_or s i 0 < 256)

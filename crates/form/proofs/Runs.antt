@@ -7,14 +7,13 @@ use native.Mathlib.Nat.{add-zero, le_refl}
 use native.Mathlib.Omega.{arith}
 use lib.Dec.{eqb}
 use borrow.Author.Tests.{eqb-true, eqb-false}
-use Rattle.form.specs.Steps.{pick, and_then, run, upto}
+use Rattle.std.specs.Prelude.{Ok, Err}
+use Rattle.form.specs.Steps.{Step, pick, and_then, run, upto}
 use Rattle.form.specs.declared.Fault.{Fault}
-use Rattle.form.specs.declared.Step.{Step}
-use Rattle.form.specs.declared.Step.TheVariants.{Next, Stop}
 
 -- A loop's three cases. What is left of the checks, from number i at place `at` on, gives r.
 module _ (f : ℕ → ℕ → Step) (i e at : ℕ) (r : Step) (left : upto f i e at ≡ r) where
-  pub upto_none : e ≤ i → Next at ≡ r
+  pub upto_none : e ≤ i → Ok at ≡ r
   unfolding upto run
   upto_none h = let z : e - i ≡ 0 = omega arith in rw z at left
 
@@ -22,31 +21,31 @@ module _ (f : ℕ → ℕ → Step) (i e at : ℕ) (r : Step) (left : upto f i e
   unfolding upto run
   more h = let z : e - i ≡ suc (e - (i + 1)) = omega arith in rw z at left
 
-  pub upto_stop : (x : Fault) → i < e → f i at ≡ Stop x → Stop x ≡ r
+  pub upto_stop : (x : Fault) → i < e → f i at ≡ Err x → Err x ≡ r
   upto_stop x h p = rw p at (more h)
 
-  pub upto_next : (after : ℕ) → i < e → f i at ≡ Next after → upto f (i + 1) e after ≡ r
+  pub upto_next : (after : ℕ) → i < e → f i at ≡ Ok after → upto f (i + 1) e after ≡ r
   upto_next after h p = rw p at (more h)
 
-pub clash : (b : Fault) (z : ℕ) → Stop b ≡ Next z → ⊥
+pub clash : (b : Fault) (z : ℕ) → Err b ≡ Ok z → ⊥
 clash b z h = let w : ◌≡◌ {A = ℕ} 0 1 = cc in omega arith
 
 -- two checks that went well
-pub then_next : (x : Step) (f : ℕ → Step) (z : ℕ) → and_then x f ≡ Next z → (q : ℕ) × (x ≡ Next q) × (f q ≡ Next z)
-then_next (Next q) f z h = (q, refl, h)
-then_next (Stop b) f z h = absurd (clash b z h)
+pub then_next : (x : Step) (f : ℕ → Step) (z : ℕ) → and_then x f ≡ Ok z → (q : ℕ) × (x ≡ Ok q) × (f q ≡ Ok z)
+then_next (Ok q) f z h = (q, refl, h)
+then_next (Err b) f z h = absurd (clash b z h)
 
 -- the same, handed on: the place between them is then a variable, in which a proof can rewrite
-pub on_next : {X : Type 0} (x : Step) (f : ℕ → Step) (z : ℕ) → and_then x f ≡ Next z → ((q : ℕ) → x ≡ Next q → f q ≡ Next z → X) → X
-on_next (Next q) f z h k = k q refl h
-on_next (Stop b) f z h k = absurd (clash b z h)
+pub on_next : {X : Type 0} (x : Step) (f : ℕ → Step) (z : ℕ) → and_then x f ≡ Ok z → ((q : ℕ) → x ≡ Ok q → f q ≡ Ok z → X) → X
+on_next (Ok q) f z h k = k q refl h
+on_next (Err b) f z h k = absurd (clash b z h)
 
 -- a test that went well
-pub pick_next : (b : Bool) (x : Step) (y : Fault) (z : ℕ) → pick b x (Stop y) ≡ Next z → (b ≡ true) × (x ≡ Next z)
+pub pick_next : (b : Bool) (x : Step) (y : Fault) (z : ℕ) → pick b x (Err y) ≡ Ok z → (b ≡ true) × (x ≡ Ok z)
 pick_next true x y z h = (refl, h)
 pick_next false x y z h = absurd (clash y z h)
 
-pub pick_other : (b : Bool) (x : Fault) (y : Step) (z : ℕ) → pick b (Stop x) y ≡ Next z → (b ≡ false) × (y ≡ Next z)
+pub pick_other : (b : Bool) (x : Fault) (y : Step) (z : ℕ) → pick b (Err x) y ≡ Ok z → (b ≡ false) × (y ≡ Ok z)
 pick_other true x y z h = absurd (clash x z h)
 pick_other false x y z h = (refl, h)
 
@@ -60,8 +59,8 @@ from_or_after {X} i j h a b = go (eqb j i) refl
 
 -- checks of which number j begins at P j, where those before it went well
 module _ (f : ℕ → ℕ → Step) (P : ℕ → ℕ) where
-  run_well : (i m z : ℕ) → ((j q : ℕ) → i ≤ j → j < i + m → f j (P j) ≡ Next q → q ≡ P (j + 1)) → run f i m (P i) ≡ Next z
-      → (z ≡ P (i + m)) × ((j : ℕ) → i ≤ j → j < i + m → f j (P j) ≡ Next (P (j + 1)))
+  run_well : (i m z : ℕ) → ((j q : ℕ) → i ≤ j → j < i + m → f j (P j) ≡ Ok q → q ≡ P (j + 1)) → run f i m (P i) ≡ Ok z
+      → (z ≡ P (i + m)) × ((j : ℕ) → i ≤ j → j < i + m → f j (P j) ≡ Ok (P (j + 1)))
   unfolding run
   run_well i zero z l h = (rw add-zero (cc), λ j a b. let w : ⊥ = omega arith in absurd w)
   run_well i (suc m) z l h =
@@ -71,8 +70,8 @@ module _ (f : ℕ → ℕ → Step) (P : ℕ → ℕ) where
       let n : i + 1 + m ≡ i + suc m = omega arith in
       (rw n at ih.0, λ j a b. from_or_after i j a (λ x. rw x (cc)) (λ x. ih.1 j x (omega arith)))
 
-  pub upto_well : (i e z : ℕ) → i ≤ e → ((j q : ℕ) → i ≤ j → j < e → f j (P j) ≡ Next q → q ≡ P (j + 1)) → upto f i e (P i) ≡ Next z
-      → (z ≡ P e) × ((j : ℕ) → i ≤ j → j < e → f j (P j) ≡ Next (P (j + 1)))
+  pub upto_well : (i e z : ℕ) → i ≤ e → ((j q : ℕ) → i ≤ j → j < e → f j (P j) ≡ Ok q → q ≡ P (j + 1)) → upto f i e (P i) ≡ Ok z
+      → (z ≡ P e) × ((j : ℕ) → i ≤ j → j < e → f j (P j) ≡ Ok (P (j + 1)))
   unfolding upto
   upto_well i e z b l h =
       let n : i + (e - i) ≡ e = omega arith in

@@ -1,40 +1,34 @@
 -- Entries seen to be right, one after the other.
 use Prim.Native.Nat.{ℕ, zero, suc, ◌+◌, ◌*◌, ◌/◌, ◌<◌, ◌≤◌}
-use mathlib.Core.Path.{◌≡◌, refl, sym, ap, ◌∙◌, subst}
+use mathlib.Core.Path.{◌≡◌, sym, ap, ◌∙◌, subst}
 use mathlib.Core.Logic.{◌⊎◌, inl, inr}
 use mathlib.Core.List.{List}
 use mathlib.Core.Bool.{Bool, true, ◌&&◌}
 use native.Mathlib.Omega.{arith}
 use native.Mathlib.Decide.{dec_lt}
-use native.Mathlib.Nat.{mul_comm, zero-mul, suc-mul, add-zero, mul-one, add_assoc}
+use native.Mathlib.Nat.{mul_comm, zero-mul, suc-mul, mul-suc, add-zero, mul-one, add_assoc, mul-le-mul_left}
 use native.Mathlib.Numerals.{add-one}
 use lib.ListN.{length, get_or}
 use borrow.Author.Tests.{le-leb}
+use Rattle.std.specs.Prelude.{Ok}
 use Rattle.form.specs.Bytes.{num}
 use Rattle.form.specs.Steps.{upto}
-use Rattle.form.specs.Form.{Section, width, due, fields, fields_from, event_fields, lock_fields, initial_fields, entry, entries}
-use Rattle.form.specs.Seen.{Leading, Seen}
+use Rattle.form.specs.Form.{Section, width, due, fields, fields_from, entry, entries}
+use Rattle.form.specs.Seen.{Leading, FieldsRight, Seen}
 use Rattle.form.specs.declared.Counts.{Counts}
-use Rattle.form.specs.declared.Step.TheVariants.{Next}
 use Rattle.form.proofs.Flags.{both}
 use Rattle.form.proofs.Numbers.{num_one}
 use Rattle.form.proofs.Rights.{fields_end, sizes_width, entry_well}
 use Rattle.form.proofs.Runs.{upto_next}
 use Rattle.form.proofs.Branches.{pair_right, one_right, row_pair, row_locked, row_one}
 
--- bytes below n
-module _ (s : List ℕ) (n at m : ℕ) where
-  pub leading_none : Leading s n at m 0
-  leading_none = record { most = omega arith; low = λ j h. absurd (omega arith) }
-
+-- bytes
+module _ (s : List ℕ) (at m : ℕ) where
   -- the first i of them are at most w
   pub record Topped (w i : ℕ) : Type 0 where
     pub most : i ≤ m
     pub small : w < 256
     pub low : (j : ℕ) → j < i → num 1 s (at + j) ≤ w
-
-  pub topped_none : Topped 0 0
-  topped_none = record { most = omega arith; small = omega arith; low = λ j h. absurd (omega arith) }
 
   pub topped_more : (w v i : ℕ) → Topped w i → i < m → v < 256 → w ≤ v → get_or s (at + i) 0 ≤ v → Topped v (i + 1)
   topped_more w v i p l b g h = record { most = omega arith; small = b; low = λ j d. go j d (dec_lt j i) }
@@ -43,17 +37,14 @@ module _ (s : List ℕ) (n at m : ℕ) where
       go j d (yes q) = let e = p.low j q in omega arith
       go j d (no q) = let e : j ≡ i = omega arith in rw (e, num_one) h
 
-  pub topped_all : (w i : ℕ) → Topped w i → m ≤ i → at + m ≤ length s → w < n → Leading s n at m m
-  topped_all w i p l f h = record { most = omega arith; low = λ j d. (omega arith, (let e = p.low j (omega arith) in omega arith)) }
-
 module _ (c : Counts) (s : List ℕ) (k at m : ℕ) where
   pub seen_none : Seen c s k m at 0
   seen_none = record { most = omega arith; right = λ j h. absurd (omega arith) }
 
-  pub seen_more : (i : ℕ) → Seen c s k m at i → i < m → entry c s k (at + i * width k) ≡ Next (at + (i + 1) * width k) → Seen c s k m at (i + 1)
+  pub seen_more : (i : ℕ) → Seen c s k m at i → i < m → entry c s k (at + i * width k) ≡ Ok (at + (i + 1) * width k) → Seen c s k m at (i + 1)
   seen_more i p l e = record { most = omega arith; right = λ j g. go j g (dec_lt j i) }
     where
-      go : (j : ℕ) → j < i + 1 → Dec (j < i) → entry c s k (at + j * width k) ≡ Next (at + (j + 1) * width k)
+      go : (j : ℕ) → j < i + 1 → Dec (j < i) → entry c s k (at + j * width k) ≡ Ok (at + (j + 1) * width k)
       go j g (yes d) = p.right j d
       go j g (no d) = let q : j ≡ i = omega arith in rw q e
 
@@ -62,30 +53,24 @@ module _ (c : Counts) (s : List ℕ) (k at m : ℕ) where
     pub most : i ≤ m
     pub right : a ≡ true → Seen c s k m at i
 
-  pub flagged_none : Flagged true 0
-  flagged_none = record { most = omega arith; right = λ h. seen_none }
-
   pub flagged_more : (a b : Bool) (i : ℕ) → Flagged a i → i < m → (b ≡ true → Seen c s k m at i → Seen c s k m at (i + 1)) → Flagged (a && b) (i + 1)
   flagged_more a b i p l f = record { most = omega arith; right = λ h. let (x, y) = both a b h in f y (p.right x) }
 
-  pub flagged_all : (a : Bool) (i : ℕ) → Flagged a i → m ≤ i → a ≡ true → Seen c s k m at m
-  flagged_all a i p l h = let g = p.most in let e : i ≡ m = omega arith in rw e at (p.right h)
-
   -- an entry that is there whole and whose fields are right
-  pub right_entry : Section k → (a z : ℕ) → a + width k ≤ length s → fields_from k (fields c s k a) a ≡ Next z → entry c s k a ≡ Next (a + width k)
+  pub right_entry : Section k → (a z : ℕ) → a + width k ≤ length s → fields_from k (fields c s k a) a ≡ Ok z → entry c s k a ≡ Ok (a + width k)
   unfolding entry due
   right_entry sec a z h e =
       let f = fields_end k (fields c s k a) a z e in
       let g = sizes_width c s k a sec in
       let q : z ≡ a + width k = omega arith in
-      simp (le-leb _ _ h) (e ∙ ap Next q)
+      simp (le-leb _ _ h) (e ∙ ap Ok q)
 
   next_place : (i : ℕ) → at + i * width k + width k ≡ at + (i + 1) * width k
   next_place i = simp (add-one, suc-mul, add_assoc)
 
   pub seen_entry : Section k → (i z : ℕ) → at + i * width k + width k ≤ length s
-      → fields_from k (fields c s k (at + i * width k)) (at + i * width k) ≡ Next z → entry c s k (at + i * width k) ≡ Next (at + (i + 1) * width k)
-  seen_entry sec i z h e = right_entry sec (at + i * width k) z h e ∙ ap Next (next_place i)
+      → fields_from k (fields c s k (at + i * width k)) (at + i * width k) ≡ Ok z → entry c s k (at + i * width k) ≡ Ok (at + (i + 1) * width k)
+  seen_entry sec i z h e = right_entry sec (at + i * width k) z h e ∙ ap Ok (next_place i)
 
   -- what is seen ends within the record
   pub seen_fits : Section k → at ≤ length s → (i : ℕ) → Seen c s k m at i → at + i * width k ≤ length s
@@ -104,28 +89,19 @@ module _ (c : Counts) (s : List ℕ) (k at m : ℕ) where
       let l = p.most in
       rw (sym (add-one i)) (upto_next _ i m _ _ (seen_on i q) _ (omega arith) (p.right i (omega arith)))
 
--- entries of w bytes
-module _ (c : Counts) (s : List ℕ) (at m i : ℕ) (l : i < m) (z : ℕ) where
-  seen_next : (k w : ℕ) → Section k → w ≡ width k → at + w * i + w ≤ length s
-      → Seen c s k m at i → fields_from k (fields c s k (at + w * i)) (at + w * i) ≡ Next z → Seen c s k m at (i + 1)
-  seen_next k w sec wide f p e =
-      let q : w * i ≡ i * width k = mul_comm w i ∙ ap (λ (x : ℕ). i * x) wide in
-      seen_more c s k at m i p l (seen_entry c s k at m sec i z (omega arith) (rw q at e))
+-- entry i of m entries of w bytes ends within them
+pub next_within : (w i m : ℕ) → i < m → w * i + w ≤ w * m
+next_within w i m l =
+    let n : w * suc i ≤ w * m = mul-le-mul_left w (omega arith) in
+    let o : w * suc i ≡ w * i + w = mul-suc w i in
+    omega arith
 
-  pub seen_event : at + 12 * i + 12 ≤ length s → Seen c s 2 m at i
-      → fields_from 2 (event_fields c s (at + 12 * i)) (at + 12 * i) ≡ Next z → Seen c s 2 m at (i + 1)
-  unfolding fields width
-  seen_event = seen_next 2 12 (record { from = omega arith; to = omega arith }) refl
-
-  pub seen_lock : at + 4 * i + 4 ≤ length s → Seen c s 4 m at i
-      → fields_from 4 (lock_fields c s (at + 4 * i)) (at + 4 * i) ≡ Next z → Seen c s 4 m at (i + 1)
-  unfolding fields width
-  seen_lock = seen_next 4 4 (record { from = omega arith; to = omega arith }) refl
-
-  pub seen_initial : at + 12 * i + 12 ≤ length s → Seen c s 5 m at i
-      → fields_from 5 (initial_fields c s (at + 12 * i)) (at + 12 * i) ≡ Next z → Seen c s 5 m at (i + 1)
-  unfolding fields width
-  seen_initial = seen_next 5 12 (record { from = omega arith; to = omega arith }) refl
+-- one more entry, of w bytes, whose fields are right
+pub seen_next : (c : Counts) (s : List ℕ) (k at m i w : ℕ) → Section k → w ≡ width k → Seen c s k m at i → i < m
+    → at + w * i + w ≤ length s → FieldsRight c s k (at + w * i) → Seen c s k m at (i + 1)
+seen_next c s k at m i w sec wide p l f e =
+    let q : w * i ≡ i * width k = mul_comm w i ∙ ap (λ (x : ℕ). i * x) wide in
+    seen_more c s k at m i p l (seen_entry c s k at m sec i _ (omega arith) (rw q at (sym e)))
 
 one_wide : (k : ℕ) → (k ≡ 6) ⊎ (k ≡ 9) → 1 ≡ width k
 unfolding width
@@ -143,10 +119,10 @@ two_wide k (inr e) = rw e
 
 -- entries of one number, and of two
 module _ (c : Counts) (s : List ℕ) (k at m : ℕ) (sec : Section k) where
-  ones : (n : ℕ) → 1 ≡ width k → ((a : ℕ) → num 1 s a < n → Next (a + 1) ≡ fields_from k (fields c s k a) a) → (r : ℕ) → Leading s n at m r → Seen c s k m at r
+  ones : (n : ℕ) → 1 ≡ width k → ((a : ℕ) → num 1 s a < n → Ok (a + 1) ≡ fields_from k (fields c s k a) a) → (r : ℕ) → Leading s n at m r → Seen c s k m at r
   ones n w g r p = record { most = p.most; right = λ j h. go j h }
     where
-      go : (j : ℕ) → j < r → entry c s k (at + j * width k) ≡ Next (at + (j + 1) * width k)
+      go : (j : ℕ) → j < r → entry c s k (at + j * width k) ≡ Ok (at + (j + 1) * width k)
       go j h =
           let q : j ≡ j * width k = sym (mul-one j) ∙ ap (λ (x : ℕ). j * x) w in
           let a = p.low j h in
@@ -162,7 +138,7 @@ module _ (c : Counts) (s : List ℕ) (k at m : ℕ) (sec : Section k) where
   pub seen_pairs : (k ≡ 3) ⊎ (k ≡ 8) → (r : ℕ) → Leading s c.events at (2 * m) r → Seen c s k m at (r / 2)
   seen_pairs d r p = record { most = let h = p.most in omega arith; right = λ j h. go j h }
     where
-      go : (j : ℕ) → j < r / 2 → entry c s k (at + j * width k) ≡ Next (at + (j + 1) * width k)
+      go : (j : ℕ) → j < r / 2 → entry c s k (at + j * width k) ≡ Ok (at + (j + 1) * width k)
       go j h =
           let q : 2 * j ≡ j * width k = mul_comm 2 j ∙ ap (λ (x : ℕ). j * x) (two_wide k d) in
           let a = p.low (2 * j) (omega arith) in

@@ -1,10 +1,8 @@
 -- The form of a record, form 1, as reading meets it: each check gives the place after what it read, or the first fault.
-use Rattle.std.specs.Prelude.{ℕ, ◌+◌, ◌%◌, ◌≤◌, List, [], ◌∷◌, Bool, true, false, length, get_or, leb, ltb, eqb}
+use Rattle.std.specs.Prelude.{ℕ, ◌+◌, ◌%◌, ◌≤◌, List, [], ◌∷◌, Bool, true, false, length, get_or, leb, ltb, eqb, Ok}
 use Rattle.form.specs.Bytes.{num}
-use Rattle.form.specs.Steps.{pick, stop, and_then, upto}
+use Rattle.form.specs.Steps.{Step, pick, stop, and_then, upto}
 use Rattle.form.specs.declared.Counts.{Counts}
-use Rattle.form.specs.declared.Step.{Step}
-use Rattle.form.specs.declared.Step.TheVariants.{Next}
 
 -- ---- the table, by section from 0 on. Of section 9 it has a view, which is a section of its own; how many views there are is P.
 
@@ -23,7 +21,7 @@ pub record Section (k : ℕ) : Type 0 where
 
 -- w bytes of section k are due at `at`
 unfoldable pub due : List ℕ → ℕ → ℕ → ℕ → Step
-due s k w at = pick (leb (at + w) (length s)) (Next (at + w)) (stop 2 k at)
+due s k w at = pick (leb (at + w) (length s)) (Ok (at + w)) (stop 2 k at)
 
 -- ---- the fields of an entry: how many bytes, and whether in range
 pub record Field : Type 0 where
@@ -34,7 +32,7 @@ abbrev pub field : ℕ → Bool → Field
 field n b = record { size = n; right = b }
 
 abbrev pub fields_from : ℕ → List Field → ℕ → Step
-fields_from k [] at = Next at
+fields_from k [] at = Ok at
 fields_from k (f ∷ fs) at = pick f.right (fields_from k fs (at + f.size)) (stop 4 k at)
 
 -- an address divisible by 4, or a register 0 to 14

@@ -1,17 +1,16 @@
 -- What reading promises of a record that has the form.
-use Rattle.std.specs.Prelude.{ℕ, ◌+◌, ◌*◌, ◌≤◌, ◌<◌, ◌≡◌, List, length}
+use Rattle.std.specs.Prelude.{ℕ, ◌+◌, ◌*◌, ◌≤◌, ◌<◌, ◌≡◌, List, length, Ok}
 use Rattle.form.specs.Bytes.{num}
 use Rattle.form.specs.Form.{width, limit, entry}
 use Rattle.form.specs.Place.{start, view_start, counts}
 use Rattle.form.specs.declared.Counts.{Counts}
-use Rattle.form.specs.declared.Step.TheVariants.{Next}
 
 -- a count with its entries that went well
 pub record Block (c : Counts) (s : List ℕ) (k at z : ℕ) : Type 0 where
   pub within : num 2 s at ≤ limit k
   pub ends : z ≡ at + 2 + num 2 s at * width k
   pub fits : z ≤ length s
-  pub each : (i : ℕ) → i < num 2 s at → entry c s k (at + 2 + i * width k) ≡ Next (at + 2 + (i + 1) * width k)
+  pub each : (i : ℕ) → i < num 2 s at → entry c s k (at + 2 + i * width k) ≡ Ok (at + 2 + (i + 1) * width k)
 
 -- a record that has the form
 pub record Right (s : List ℕ) : Type 0 where

@@ -1,33 +1,25 @@
 // A quick look over the entries of a section: how many of them, from the first on, are right. What it does not see to be right
 // is read entry by entry. A loop here does not end early, so that it can compare many entries at a time.
-ghost use Rattle.std.specs.Prelude.{◌≡◌, true, ◌+◌, ◌/◌, ◌%◌, ◌≤◌, ◌<◌, length};
+ghost use Rattle.std.specs.Prelude.{◌≡◌, ℕ, true, Ok, ◌+◌, ◌/◌, ◌%◌, ◌≤◌, ◌<◌, length};
 ghost use Rattle.form.specs.Bytes.{num};
-ghost use Rattle.form.specs.Form.{Section, fields_from, event_fields, lock_fields, initial_fields};
-ghost use Rattle.form.specs.Seen.{Leading, Seen};
-ghost use Rattle.form.specs.declared.Step.TheVariants.{Next};
+ghost use Rattle.form.specs.Form.{Section, width, fields_from, event_fields, lock_fields, initial_fields};
+ghost use Rattle.form.specs.Seen.{Leading, FieldsRight, Seen};
 
 use crate::Counts;
+use crate::entry::width;
 
-// How many of the `m` bytes at `at` are below `n`: all, or none is counted.
+// How many of the `m` bytes at `at` are seen to be below `n`: all, or 0.
 fn below(s: &[u8], n: usize, at: usize, m: usize) -> usize
     ensures { Leading s.now n at m result }
 {
-    if s.len() < at {
-        return 0;
-    }
-    if s.len() - at < m {
+    if s.len() < at || s.len() - at < m {
         return 0;
     }
     let mut most: u8 = 0;
-    let mut i: usize = 0;
-    while i < m {
-        let b = s[at + i];
-        if most < b {
-            most = b;
-        }
-        i = i + 1;
+    for b in &s[at..at + m] {
+        most = most.max(*b);
     }
-    if (most as usize) < n { m } else { 0 }
+    if usize::from(most) < n { m } else { 0 }
 }
 
 // The number of the four bytes from `at`, the lowest first, as one word, and what its parts are.
@@ -46,9 +38,10 @@ fn word(s: &[u8], at: usize) -> u32
 }
 
 // True only where the fields of an event are right.
+#[tactic(auto, using(crate::proofs::Flags::event_flag))]
 fn event_right(c: Counts, s: &[u8], at: usize) -> bool
     requires { (c.processors < 256) × (at + 12 ≤ length s.now) }
-    ensures { result ≡ true → Next (at + 12) ≡ fields_from 2 (event_fields c s.now at) at }
+    ensures { result ≡ true → Ok (at + 12) ≡ fields_from 2 (event_fields c s.now at) at }
 {
     let processors = c.processors as u32;
     let head = word(s, at);
@@ -59,34 +52,11 @@ fn event_right(c: Counts, s: &[u8], at: usize) -> bool
     (head % 256 < processors) & (memory | register)
 }
 
-// How many of the `m` events at `at`: all, or none is counted.
-fn events(c: Counts, s: &[u8], m: usize, at: usize) -> usize
-    requires { m < 65536 }
-    ensures { Seen c s.now 2 m at result }
-{
-    let processors = c.processors;
-    if s.len() < at {
-        return 0;
-    }
-    if s.len() - at < 12 * m {
-        return 0;
-    }
-    if 255 < processors {
-        return 0;
-    }
-    let mut right = true;
-    let mut i: usize = 0;
-    while i < m {
-        right = right & event_right(c, s, at + 12 * i);
-        i = i + 1;
-    }
-    if right { m } else { 0 }
-}
-
 // True only where the fields of an initial value are right.
+#[tactic(auto, using(crate::proofs::Flags::initial_flag))]
 fn initial_right(c: Counts, s: &[u8], at: usize) -> bool
     requires { (c.processors < 256) × (at + 12 ≤ length s.now) }
-    ensures { result ≡ true → Next (at + 12) ≡ fields_from 5 (initial_fields c s.now at) at }
+    ensures { result ≡ true → Ok (at + 12) ≡ fields_from 5 (initial_fields c s.now at) at }
 {
     let processors = c.processors as u32;
     let head = word(s, at);
@@ -96,77 +66,55 @@ fn initial_right(c: Counts, s: &[u8], at: usize) -> bool
     memory | register
 }
 
-// How many of the `m` initial values at `at`: all, or none is counted.
-fn initials(c: Counts, s: &[u8], m: usize, at: usize) -> usize
-    requires { m < 65536 }
-    ensures { Seen c s.now 5 m at result }
-{
-    let processors = c.processors;
-    if s.len() < at {
-        return 0;
-    }
-    if s.len() - at < 12 * m {
-        return 0;
-    }
-    if 255 < processors {
-        return 0;
-    }
-    let mut right = true;
-    let mut i: usize = 0;
-    while i < m {
-        right = right & initial_right(c, s, at + 12 * i);
-        i = i + 1;
-    }
-    if right { m } else { 0 }
-}
-
 // True only where the fields of a locked instruction are right.
+#[tactic(auto, using(crate::proofs::Flags::lock_flag))]
 fn lock_right(c: Counts, s: &[u8], at: usize) -> bool
     requires { (c.processors < 256) × (at + 4 ≤ length s.now) }
-    ensures { result ≡ true → Next (at + 4) ≡ fields_from 4 (lock_fields c s.now at) at }
+    ensures { result ≡ true → Ok (at + 4) ≡ fields_from 4 (lock_fields c s.now at) at }
 {
     let processors = c.processors as u32;
     word(s, at) % 65536 < processors
 }
 
-// How many of the `m` locked instructions at `at`: all, or none is counted.
-fn locks(c: Counts, s: &[u8], m: usize, at: usize) -> usize
-    requires { m < 65536 }
-    ensures { Seen c s.now 4 m at result }
+// How many of the `m` entries of section `k` at `at` are seen to be right: all, or 0. `is_right` is true only where the fields of an entry
+// are right.
+fn all_right<F: Fn(usize) -> bool>(
+    c: Counts,
+    s: &[u8],
+    k: u16,
+    m: usize,
+    at: usize,
+    is_right: F,
+) -> usize
+    requires section { Section k × (m < 65536) }
+    requires asked { (a : ℕ) → c.processors < 256 → a + width k ≤ length s.now → F.pre is_right a }
+    requires told { (a : ℕ) → c.processors < 256 → a + width k ≤ length s.now → F.post is_right a true → FieldsRight c s.now k a }
+    ensures { Seen c s.now k m at result }
 {
-    let processors = c.processors;
-    if s.len() < at {
-        return 0;
-    }
-    if s.len() - at < 4 * m {
-        return 0;
-    }
-    if 255 < processors {
+    let len = width(k);
+    if 255 < c.processors || s.len() < at || s.len() - at < len * m {
         return 0;
     }
     let mut right = true;
-    let mut i: usize = 0;
-    while i < m {
-        right = right & lock_right(c, s, at + 4 * i);
-        i = i + 1;
+    for i in 0..m {
+        right = right & is_right(at + len * i);
     }
     if right { m } else { 0 }
 }
 
-// How many of the `m` entries of section `k` at `at`.
+// How many of the `m` entries of section `k` at `at` are seen to be right.
+#[tactic(auto, unfolding(crate::specs::Form::width, crate::specs::Form::fields))]
 pub fn glance(c: Counts, s: &[u8], k: u16, m: usize, at: usize) -> usize
     requires { Section k × (m < 65536) }
     ensures { Seen c s.now k m at result }
 {
-    let n = c.events;
-    let g = c.locks;
     match k {
-        2 => events(c, s, m, at),
-        3 | 8 => below(s, n, at, 2 * m) / 2,
-        4 => locks(c, s, m, at),
-        5 => initials(c, s, m, at),
-        6 | 9 => below(s, n, at, m),
-        7 => below(s, g, at, m),
+        2 => all_right(c, s, 2, m, at, |a| event_right(c, s, a)),
+        3 | 8 => below(s, c.events, at, 2 * m) / 2,
+        4 => all_right(c, s, 4, m, at, |a| lock_right(c, s, a)),
+        5 => all_right(c, s, 5, m, at, |a| initial_right(c, s, a)),
+        6 | 9 => below(s, c.events, at, m),
+        7 => below(s, c.locks, at, m),
         _ => 0,
     }
 }

@@ -18,17 +18,11 @@ pub struct Counts {
     pub locks: usize,
 }
 
-// A refusal: the answer, the section and the place of the first byte of what is at fault.
-#[derive(Clone, Copy)]
+// A refusal: the answer, the section and the place of the first byte of what is at fault. Answer and section are the numbers of the
+// definition `stop` and of the evidence; names for them would be turned back into these numbers at each use.
+#[derive(Clone, Copy, Debug, PartialEq, Eq)]
 pub struct Fault {
     pub answer: u16,
     pub section: u16,
     pub at: usize,
-}
-
-// What reading finds: the place after what was read, or the first fault.
-#[derive(Clone, Copy)]
-pub enum Step {
-    Next(usize),
-    Stop(Fault),
 }

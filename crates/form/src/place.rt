@@ -7,21 +7,21 @@ use crate::bytes::{byte, count_at};
 use crate::entry::width;
 
 // Where section `k` starts, its count included.
+#[tactic(auto, unfolding(crate::specs::Place::start), using(crate::proofs::Starts::start_more, crate::proofs::Branches::small_product, crate::proofs::Branches::width_le))]
 pub fn start(s: &[u8], k: u16) -> usize
     requires { (2 ≤ k) × (k ≤ 9) }
     ensures value { result ≡ start s.now k }
     ensures small { result ≤ k * 786422 }
 {
-    let mut j: u16 = 2;
-    let mut a: usize = 2;
-    while j < k {
+    let mut a = 2;
+    for j in 2..k {
         a = a + 2 + count_at(s, a) * width(j);
-        j = j + 1;
     }
     a
 }
 
 // The counts of a record.
+#[tactic(auto, unfolding(crate::specs::Place::counts))]
 pub fn counts(s: &[u8]) -> Counts
     ensures { result ≡ counts s.now }
 {

@@ -8,14 +8,13 @@ use native.Mathlib.Nat.{add-zero, mul-lt-mul_of_pos_right, le_refl}
 use native.Mathlib.Omega.{arith}
 use lib.Dec.{leb}
 use borrow.Author.Tests.{leb-true}
+use Rattle.std.specs.Prelude.{Some, None}
 use Rattle.form.specs.Bytes.{num}
 use Rattle.form.specs.Form.{width}
 use Rattle.form.specs.Place.{start, count, entry_at, view_start}
 use Rattle.form.specs.Steps.{pick}
 use Rattle.form.proofs.Starts.{start_more, view_start_next}
-use Rattle.reader.specs.Entries.{or_else, first_of, after, entry_of, view_of, entry_from, view_from, item_at}
-use Rattle.reader.specs.declared.Item.{Item}
-use Rattle.reader.specs.declared.Item.TheVariants.{Entry, Done}
+use Rattle.reader.specs.Entries.{Item, or_else, first_of, after, entry_of, view_of, entry_from, view_from, item_at}
 use Rattle.reader.proofs.Firsts.{none_first, first_at, passed, stays}
 use Rattle.reader.proofs.Spaced.{width_pos}
 
@@ -64,18 +63,18 @@ module _ (s : List ℕ) where
       rw e (omega arith)
 
   -- from the next section on, none of section k is given
-  pub section_passed : (k at : ℕ) → 2 ≤ k → k < 9 → start s (k + 1) ≤ at → entry_from s at k ≡ Done
+  pub section_passed : (k at : ℕ) → 2 ≤ k → k < 9 → start s (k + 1) ≤ at → entry_from s at k ≡ None
   unfolding entry_from entry_of
   section_passed k at g l h =
       none_first (λ i. after at (entry_of s k i)) 0 (count s k)
-      (λ i a b. let e = entry_within k i g (width_pos k g l) (omega arith) in passed at k _ _ (omega arith))
+      (λ i a b. let e = entry_within k i g (width_pos k g l) (omega arith) in passed at _ (omega arith))
 
   module _ (k i : ℕ) (g : 2 ≤ k) (l : k < 9) (h : i < count s k) where
     entry_found : entry_from s (entry_at s k i) k ≡ entry_of s k i
     unfolding entry_from entry_of
     entry_found =
-        first_at (λ j. after (entry_at s k i) (entry_of s k j)) 0 (count s k) i k _ _ (omega arith) (omega arith)
-        (λ j a b. passed _ k _ _ (entry_less k j i (width_pos k g l) b)) (stays _ k _ _ (le_refl _))
+        first_at (λ j. after (entry_at s k i) (entry_of s k j)) 0 (count s k) i _ (omega arith) (omega arith)
+        (λ j a b. passed _ _ (entry_less k j i (width_pos k g l) b)) (stays _ _ (le_refl _))
 
     before_entry : (j : ℕ) → j < k → 2 ≤ j → start s (j + 1) ≤ entry_at s k i
     unfolding entry_at
@@ -83,7 +82,7 @@ module _ (s : List ℕ) where
 
     section_found : first_of (entry_from s (entry_at s k i)) 2 7 ≡ entry_of s k i
     unfolding entry_of
-    section_found = first_at (entry_from s (entry_at s k i)) 2 7 k k _ _ g (omega arith) (λ j a b. section_passed j _ a (omega arith) (before_entry j b a)) entry_found
+    section_found = first_at (entry_from s (entry_at s k i)) 2 7 k _ g (omega arith) (λ j a b. section_passed j _ a (omega arith) (before_entry j b a)) entry_found
 
     pub entry_read : item_at s (entry_at s k i) ≡ entry_of s k i
     unfolding item_at entry_of
@@ -100,8 +99,8 @@ module _ (s : List ℕ) where
   view_found : (p : ℕ) → p < num 1 s 1 → view_from s (view_start s p) ≡ view_of s p
   unfolding view_from view_of
   view_found p h =
-      first_at (λ q. after (view_start s p) (view_of s q)) 0 (num 1 s 1) p 9 _ _ (omega arith) (omega arith)
-      (λ q a b. passed _ 9 _ _ (view_less q p b)) (stays _ 9 _ _ (le_refl _))
+      first_at (λ q. after (view_start s p) (view_of s q)) 0 (num 1 s 1) p _ (omega arith) (omega arith)
+      (λ q a b. passed _ _ (view_less q p b)) (stays _ _ (le_refl _))
 
   pub view_read : (p : ℕ) → p < num 1 s 1 → item_at s (view_start s p) ≡ view_of s p
   unfolding item_at
@@ -111,13 +110,13 @@ module _ (s : List ℕ) where
 
 -- ---- never an entry before the place
 abbrev pub Past : ℕ → Item → Type 0
-Past at (Entry k p n) = at ≤ p
-Past at Done = Unit {0}
+Past at (Some e) = at ≤ e.at
+Past at None = Unit {0}
 
 module _ (at : ℕ) where
   past_else : (x y : Item) → Past at x → Past at y → Past at (or_else x y)
-  past_else (Entry k p n) y h g = h
-  past_else Done y h g = g
+  past_else (Some e) y h g = h
+  past_else None y h g = g
 
   past_first : (f : ℕ → Item) → ((j : ℕ) → Past at (f j)) → (i m : ℕ) → Past at (first_of f i m)
   unfolding first_of
@@ -125,12 +124,12 @@ module _ (at : ℕ) where
   past_first f h i (suc m) = past_else (f i) _ (h i) (past_first f h (i + 1) m)
 
   past_after : (x : Item) → Past at (after at x)
-  past_after (Entry k p n) = go (leb at p) refl
+  past_after (Some e) = go (leb at e.at) refl
     where
-      go : (b : Bool) → leb at p ≡ b → Past at (pick b (Entry k p n) Done)
+      go : (b : Bool) → leb at e.at ≡ b → Past at (pick b (Some e) None)
       go true q = leb-true _ _ q
       go false q = tt
-  past_after Done = tt
+  past_after None = tt
 
   module _ (s : List ℕ) where
     past_entry : (k : ℕ) → Past at (entry_from s at k)

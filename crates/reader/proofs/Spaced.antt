@@ -1,50 +1,35 @@
 -- Entries of one width that stand one after the other: the first at or after a place, by its number; so of a section's entries.
 -- Assumes nothing.
-use Prim.Native.Nat.{ℕ, zero, suc, ◌+◌, ◌*◌, ◌-◌, ◌/◌, ◌≤◌, ◌<◌}
+use Prim.Native.Nat.{ℕ, zero, suc, ◌+◌, ◌*◌, ◌≤◌, ◌<◌}
 use mathlib.Core.Path.{◌≡◌}
 use mathlib.Core.List.{List}
-use native.Mathlib.Nat.{add-mul, one-mul, mul-le-mul_right, div-mul-le_self, lt-div-mul-add}
 use native.Mathlib.Omega.{arith}
 use lib.Dec.{lit<}
+use Rattle.std.specs.Prelude.{None}
 use Rattle.form.specs.Bytes.{num}
 use Rattle.form.specs.Form.{width}
 use Rattle.form.specs.Place.{start, count, entry_at}
 use Rattle.form.proofs.Branches.{small_product, width_le}
 use Rattle.reader.specs.Entries.{first_of, after, entry_of, entry_from}
-use Rattle.reader.specs.declared.Item.TheVariants.{Entry, Done}
-use Rattle.reader.proofs.Firsts.{none_first, first_at, passed, stays}
-
--- past the first place, the number by a division
-module _ (at base w : ℕ) (past : base < at) (some : 0 < w) where
-  pub divided_reached : at ≤ base + ((at - base - 1) / w + 1) * w
-  divided_reached =
-      let h = lt-div-mul-add {a = at - base - 1} some in
-      let e : ((at - base - 1) / w + 1) * w ≡ (at - base - 1) / w * w + w = simp (add-mul, one-mul) in
-      omega arith
-
-  pub divided_before : (j : ℕ) → j < (at - base - 1) / w + 1 → base + j * w < at
-  divided_before j h =
-      let a : j * w ≤ (at - base - 1) / w * w = mul-le-mul_right w (omega arith) in
-      let b = div-mul-le_self (at - base - 1) w in
-      omega arith
+use Rattle.reader.proofs.Firsts.{found, none_first, first_at, passed, stays}
 
 -- those before number i stand before `at`
 module _ (k at base w m i : ℕ) (before : (j : ℕ) → j < i → base + j * w < at) where
-  spaced_found : at ≤ base + i * w → i < m → first_of (λ j. after at (Entry k (base + j * w) w)) 0 m ≡ Entry k (base + i * w) w
+  spaced_found : at ≤ base + i * w → i < m → first_of (λ j. after at (found k (base + j * w) w)) 0 m ≡ found k (base + i * w) w
   spaced_found reached h =
-      first_at (λ j. after at (Entry k (base + j * w) w)) 0 m i k _ _ (omega arith) (omega arith)
-      (λ j a b. passed at k _ _ (before j b)) (stays at k _ _ reached)
+      first_at (λ j. after at (found k (base + j * w) w)) 0 m i _ (omega arith) (omega arith)
+      (λ j a b. passed at _ (before j b)) (stays at _ reached)
 
-  spaced_none : m ≤ i → first_of (λ j. after at (Entry k (base + j * w) w)) 0 m ≡ Done
-  spaced_none h = none_first (λ j. after at (Entry k (base + j * w) w)) 0 m (λ j a b. passed at k _ _ (before j (omega arith)))
+  spaced_none : m ≤ i → first_of (λ j. after at (found k (base + j * w) w)) 0 m ≡ None
+  spaced_none h = none_first (λ j. after at (found k (base + j * w) w)) 0 m (λ j a b. passed at _ (before j (omega arith)))
 
 -- the same of section k, which starts at `first`
 module _ (s : List ℕ) (k at first w m i : ℕ) (here : first ≡ start s k) (wide : w ≡ width k) (all : m ≡ num 2 s first) (before : (j : ℕ) → j < i → first + 2 + j * w < at) where
-  pub entry_found : at ≤ first + 2 + i * w → i < m → entry_from s at k ≡ Entry k (first + 2 + i * w) w
+  pub entry_found : at ≤ first + 2 + i * w → i < m → entry_from s at k ≡ found k (first + 2 + i * w) w
   unfolding entry_from entry_of entry_at count
   entry_found reached h = rw (← here, ← wide, ← all) (spaced_found k at (first + 2) w m i before reached h)
 
-  pub entry_none : m ≤ i → entry_from s at k ≡ Done
+  pub entry_none : m ≤ i → entry_from s at k ≡ None
   unfolding entry_from entry_of entry_at count
   entry_none h = rw (← here, ← wide, ← all) (spaced_none k at (first + 2) w m i before h)
 

@@ -4,13 +4,13 @@ use Prim.Native.Nat.{ℕ, ◌+◌, ◌*◌, ◌-◌, ◌≤◌, ◌<◌}
 use mathlib.Core.Path.{◌≡◌, refl}
 use mathlib.Core.List.{List}
 use native.Mathlib.Omega.{arith}
+use Rattle.std.specs.Prelude.{None}
 use Rattle.form.specs.Bytes.{num}
 use Rattle.form.specs.Form.{width}
 use Rattle.form.specs.Place.{start}
 use Rattle.form.proofs.Starts.{start_more}
 use Rattle.reader.specs.Entries.{or_else, first_of, entry_from, view_from, item_at}
-use Rattle.reader.specs.declared.Item.TheVariants.{Entry, Done}
-use Rattle.reader.proofs.Firsts.{first_none, first_found, first_next}
+use Rattle.reader.proofs.Firsts.{found, first_none, first_found, first_next}
 use Rattle.reader.proofs.Passed.{section_passed}
 use Rattle.reader.proofs.Spaced.{entry_found, entry_none, entries_small}
 
@@ -35,7 +35,7 @@ module _ {s : List ℕ} {at k first : ℕ} (l : Walking s at k first) where
     next_here : first + 2 + m * w ≡ start s (k + 1)
     next_here = let e = l.here in cc (start_more s k l.low)
 
-    walk_next : entry_from s at k ≡ Done → Walking s at (k + 1) (first + 2 + m * w)
+    walk_next : entry_from s at k ≡ None → Walking s at (k + 1) (first + 2 + m * w)
     walk_next e =
         let p = entries_small k m w few wide in
         let b = l.small in
@@ -48,8 +48,8 @@ module _ {s : List ℕ} {at k first : ℕ} (l : Walking s at k first) where
 
     -- those before number i stand before the place
     module _ {i : ℕ} (before : (j : ℕ) → j < i → first + 2 + j * w < at) where
-      pub walk_found : at ≤ first + 2 + i * w → i < m → Entry k (first + 2 + i * w) w ≡ item_at s at
-      walk_found reached g = first_found _ _ _ _ _ l.left _ _ _ h (entry_found s k at first w m i l.here wide all before reached g)
+      pub walk_found : at ≤ first + 2 + i * w → i < m → found k (first + 2 + i * w) w ≡ item_at s at
+      walk_found reached g = first_found _ _ _ _ _ l.left _ h (entry_found s k at first w m i l.here wide all before reached g)
 
       pub walk_over : m ≤ i → Walking s at (k + 1) (first + 2 + m * w)
       walk_over g = walk_next (entry_none s k at first w m i l.here wide all before g)

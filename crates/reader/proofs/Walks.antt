@@ -8,30 +8,28 @@ use native.Mathlib.Nat.{add-zero, zero-add, add_assoc, suc-mul, le_refl}
 use native.Mathlib.Numerals.{add-one}
 use native.Mathlib.Omega.{arith}
 use lib.ListN.{length}
+use Rattle.std.specs.Prelude.{Some, None, Ok, Err}
 use Rattle.form.specs.Bytes.{num}
 use Rattle.form.specs.Form.{width}
 use Rattle.form.specs.Place.{start, count, entry_at, view_start}
 use Rattle.form.specs.Whole.{whole}
 use Rattle.form.specs.declared.Fault.{Fault}
-use Rattle.form.specs.declared.Step.TheVariants.{Next, Stop}
 use Rattle.form.proofs.Rights.{whole_well}
 use Rattle.form.proofs.Starts.{start_more, view_start_next}
-use Rattle.reader.specs.Entries.{or_else, first_of, after, entry_of, view_of, entry_from, view_from, item_at, open_part}
+use Rattle.reader.specs.Entries.{Item, or_else, first_of, after, entry_of, view_of, entry_from, view_from, item_at, open_part}
 use Rattle.reader.specs.Walk.{list_of, entries_of, sections_of, views_of, all_entries, Walks, Apart}
-use Rattle.reader.specs.declared.Item.{Item}
-use Rattle.reader.specs.declared.Item.TheVariants.{Entry, Done}
 use Rattle.reader.proofs.Firsts.{passed, stays, open_right}
 use Rattle.reader.proofs.Given.{refused_none}
 use Rattle.reader.proofs.Spaced.{width_pos}
 
 -- ---- what is given is the first of all entries at or after the place
 unfoldable first_in : ℕ → List Item → Item
-first_in at [] = Done
+first_in at [] = None
 first_in at (x ∷ l) = or_else (after at x) (first_in at l)
 
 else_assoc : (x y z : Item) → or_else (or_else x y) z ≡ or_else x (or_else y z)
-else_assoc (Entry k p n) y z = refl
-else_assoc Done y z = refl
+else_assoc (Some e) y z = refl
+else_assoc None y z = refl
 
 module _ (at : ℕ) where
   first_append : (l m : List Item) → first_in at (l ++ m) ≡ or_else (first_in at l) (first_in at m)
@@ -66,14 +64,14 @@ module _ (at : ℕ) where
 apart_from : (a b : ℕ) (l : List Item) (c : ℕ) → a ≤ b → Apart b l c → Apart a l c
 unfolding Apart
 apart_from a b [] c h t = omega arith
-apart_from a b (Entry k p n ∷ l) c h t = let q = t.0 in (omega arith, t.1, t.2)
-apart_from a b (Done ∷ l) c h t = absurd t
+apart_from a b (Some e ∷ l) c h t = let q = t.0 in (omega arith, t.1, t.2)
+apart_from a b (None ∷ l) c h t = absurd t
 
 apart_append : (a : ℕ) (l : List Item) (b : ℕ) (m : List Item) (c : ℕ) → Apart a l b → Apart b m c → Apart a (l ++ m) c
 unfolding Apart
 apart_append a [] b m c t u = apart_from a b m c t u
-apart_append a (Entry k p n ∷ l) b m c t u = (t.0, t.1, apart_append (p + n) l b m c t.2 u)
-apart_append a (Done ∷ l) b m c t u = absurd t
+apart_append a (Some e ∷ l) b m c t u = (t.0, t.1, apart_append (e.at + e.len) l b m c t.2 u)
+apart_append a (None ∷ l) b m c t u = absurd t
 
 module _ (s : List ℕ) where
   views_first : start s 9 ≤ view_start s 0
@@ -132,11 +130,11 @@ module _ (s : List ℕ) where
   walk : (at : ℕ) (l : List Item) (end : ℕ) → Apart at l end → ((x : ℕ) → at ≤ x → first_in x l ≡ item_at s x) → Walks s at l
   unfolding Apart Walks first_in
   walk at [] end t g = sym (g at (le_refl _))
-  walk at (Entry k p n ∷ l) end t g =
+  walk at (Some e ∷ l) end t g =
       let (a, b, c) = t in
-      let e : Entry k p n ≡ item_at s at = rw (stays at k p n a) at (g at (le_refl _)) in
-      (sym e, walk (p + n) l end c (λ x h. rw (passed x k p n (omega arith)) at (g x (omega arith))))
-  walk at (Done ∷ l) end t g = absurd t
+      let q : Some e ≡ item_at s at = rw (stays at e a) at (g at (le_refl _)) in
+      (sym q, walk (e.at + e.len) l end c (λ x h. rw (passed x e (omega arith)) at (g x (omega arith))))
+  walk at (None ∷ l) end t g = absurd t
 
   -- a reader gives every entry, each once and in order, and then none
   pub walk_all : Walks s 0 (all_entries s)
@@ -146,16 +144,15 @@ module _ (s : List ℕ) where
   walk_one : (at : ℕ) (l m : List Item) → Walks s at l → Walks s at m → l ≡ m
   unfolding Walks
   walk_one at [] [] t u = refl
-  walk_one at [] (Entry k p n ∷ m) t u = let (a, b) = u in cc
-  walk_one at (Entry k p n ∷ l) [] t u = let (a, b) = t in cc
-  walk_one at (Entry k p n ∷ l) (Entry j q o ∷ m) t u =
-      let z : Entry k p n ≡ Entry j q o = sym t.0 ∙ u.0 in
-      let a : p ≡ q = cc in
-      let b : n ≡ o = cc in
-      ap₂ ◌∷◌ z (walk_one (q + o) l m (rw (a, b) at t.1) u.1)
-  walk_one at (Done ∷ l) m t u = absurd t
-  walk_one at [] (Done ∷ m) t u = absurd u
-  walk_one at (Entry k p n ∷ l) (Done ∷ m) t u = absurd u
+  walk_one at [] (Some e ∷ m) t u = let (a, b) = u in cc
+  walk_one at (Some e ∷ l) [] t u = let (a, b) = t in cc
+  walk_one at (Some e ∷ l) (Some f ∷ m) t u =
+      let z : Some e ≡ Some f = sym t.0 ∙ u.0 in
+      let q : e ≡ f = cc in
+      ap₂ ◌∷◌ z (walk_one (f.at + f.len) l m (rw q at t.1) u.1)
+  walk_one at (None ∷ l) m t u = absurd t
+  walk_one at [] (None ∷ m) t u = absurd u
+  walk_one at (Some e ∷ l) (None ∷ m) t u = absurd u
 
   -- and nothing else
   pub walk_only : (l : List Item) → Walks s 0 l → l ≡ all_entries s
@@ -164,14 +161,14 @@ module _ (s : List ℕ) where
 -- ---- as opening hands the bytes on
 module _ (s : List ℕ) where
   -- of a record that has the form: every entry, and nothing else
-  pub walk_right : (z : ℕ) → whole s ≡ Next z → (l : List Item) → Walks (open_part s) 0 l ↔ (l ≡ all_entries s)
+  pub walk_right : (z : ℕ) → whole s ≡ Ok z → (l : List Item) → Walks (open_part s) 0 l ↔ (l ≡ all_entries s)
   walk_right z e l = rw (← (open_right s z e).1) (walk_only s l, λ q. rw q (walk_all s))
 
   -- of a refused one: none
-  pub walk_refused : (f : Fault) → whole s ≡ Stop f → (l : List Item) → Walks (open_part s) 0 l ↔ (l ≡ [])
+  pub walk_refused : (f : Fault) → whole s ≡ Err f → (l : List Item) → Walks (open_part s) 0 l ↔ (l ≡ [])
   unfolding Walks
   walk_refused f e l = let n = refused_none s f e 0 in (λ t. walk_one (open_part s) 0 l [] t n, λ q. rw q n)
 
   -- the entries of a record that has the form stand in it, none over another
-  pub right_apart : (z : ℕ) → whole s ≡ Next z → Apart 0 (all_entries s) (length s)
+  pub right_apart : (z : ℕ) → whole s ≡ Ok z → Apart 0 (all_entries s) (length s)
   right_apart z e = rw (whole_well s z e).ends at (all_apart s)

@@ -1,10 +1,8 @@
 -- All entries of a record in order, and what a reader gives that goes on from each entry to its end: for any list of bytes.
-use Rattle.std.specs.Prelude.{ℕ, zero, suc, ◌+◌, ◌≤◌, ◌<◌, ◌≡◌, List, [], ◌∷◌, ◌++◌}
+use Rattle.std.specs.Prelude.{ℕ, zero, suc, ◌+◌, ◌≤◌, ◌<◌, ◌≡◌, List, [], ◌∷◌, ◌++◌, Some, None}
 use Rattle.form.specs.Bytes.{num}
 use Rattle.form.specs.Place.{count}
-use Rattle.reader.specs.Entries.{entry_of, view_of, item_at}
-use Rattle.reader.specs.declared.Item.{Item}
-use Rattle.reader.specs.declared.Item.TheVariants.{Entry, Done}
+use Rattle.reader.specs.Entries.{Item, entry_of, view_of, item_at}
 
 -- f i, f (i + 1), .., m of them
 unfoldable pub list_of : (ℕ → Item) → ℕ → ℕ → List Item
@@ -30,12 +28,12 @@ all_entries s = sections_of s 2 7 ++ views_of s
 
 -- reading from `at` on, each time from the end of the entry before, gives the entries of the list and then none
 unfoldable pub Walks : List ℕ → ℕ → List Item → Type 0
-Walks s at [] = item_at s at ≡ Done
-Walks s at (Entry k p n ∷ l) = (item_at s at ≡ Entry k p n) × Walks s (p + n) l
-Walks s at (Done ∷ l) = ⊥
+Walks s at [] = item_at s at ≡ None
+Walks s at (Some e ∷ l) = (item_at s at ≡ Some e) × Walks s (e.at + e.len) l
+Walks s at (None ∷ l) = ⊥
 
 -- entries that stand from `at` to `end`, none empty and none before the end of the one before it
 unfoldable pub Apart : ℕ → List Item → ℕ → Type 0
 Apart at [] end = at ≤ end
-Apart at (Entry k p n ∷ l) end = (at ≤ p) × (0 < n) × Apart (p + n) l end
-Apart at (Done ∷ l) end = ⊥
+Apart at (Some e ∷ l) end = (at ≤ e.at) × (0 < e.len) × Apart (e.at + e.len) l end
+Apart at (None ∷ l) end = ⊥

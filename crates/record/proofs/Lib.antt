@@ -4,4 +4,5 @@ pub mod Lengths
 pub mod Lockings
 pub mod Places
 pub mod Reading
+pub mod Refusing
 pub mod Viewing

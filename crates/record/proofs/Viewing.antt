@@ -7,63 +7,45 @@ use native.Mathlib.Omega.{arith}
 use native.Mathlib.Decide.{dec_lt}
 use lib.ListN.{length}
 use borrow.Author.Tests.{lt-ltb, le-ltb}
+use Rattle.std.specs.Prelude.{Result, Ok, Err, MatchResult}
+use Rattle.std.specs.Borrow.{Bor}
+use Rattle.form.proofs.Answers.{Fair, fair_whole}
 use Rattle.form.specs.Bytes.{num}
-use Rattle.form.specs.Form.{sections}
-use Rattle.form.specs.Place.{start, view_start, counts}
+use Rattle.form.specs.Place.{start, view_start}
 use Rattle.form.specs.Right.{Right}
-use Rattle.form.specs.Steps.{and_then}
-use Rattle.form.specs.Whole.{head, tail, whole}
+use Rattle.form.specs.Steps.{Step, and_then}
+use Rattle.form.specs.Whole.{whole}
 use Rattle.form.specs.declared.Fault.{Fault}
-use Rattle.form.specs.declared.Step.{Step}
-use Rattle.form.specs.declared.Step.TheVariants.{Next, Stop}
-use Rattle.form.proofs.Rights.{whole_well, sections_end}
+use Rattle.form.proofs.Rights.{whole_well}
 use Rattle.form.proofs.Runs.{clash, then_next}
 use Rattle.form.proofs.Starts.{view_start_next}
-use Rattle.form.proofs.WholeBranches.{whole_head, whole_body, body_stop, body_tail}
-use Rattle.record.specs.View.{view_answer, part_from, part_count, view_part, views_at}
+use Rattle.record.specs.declared.Part.{Part}
+use Rattle.record.specs.declared.Unseen.{Unseen}
+use Rattle.record.specs.declared.Unseen.TheVariants.{Unread, NoProcessor}
+use Rattle.record.specs.View.{view_answer, part_from, part_count, view_part, views_at, Located, Seen, Refused}
 
--- reading on the way to section 9
-module _ (s : List ℕ) where
-  stopped : (f : Fault) → Stop f ≡ whole s → Stop f ≡ views_at s
-  unfolding views_at
-  stopped f e = rw (← e)
-
-  pub head_stopped : (f : Fault) → head s ≡ Stop f → Stop f ≡ views_at s
-  head_stopped f e = stopped f (whole_head s f e)
-
-  module _ (a : ℕ) (e : head s ≡ Next a) where
-    pub sections_stopped : (f : Fault) → sections (counts s) s a ≡ Stop f → Stop f ≡ views_at s
-    sections_stopped f h = stopped f (whole_body s a _ e (body_stop _ s a f h))
-
-    module _ (n : ℕ) (h : sections (counts s) s a ≡ Next n) where
-      ended : (r : Step) → tail (counts s) s n ≡ r → r ≡ whole s
-      ended r q = whole_body s a r e (body_tail _ s a n r h (sym q))
-
-      pub tail_stopped : (f : Fault) → tail (counts s) s n ≡ Stop f → Stop f ≡ views_at s
-      tail_stopped f q = stopped f (ended _ q)
-
-      pub nine_reached : (z : ℕ) → tail (counts s) s n ≡ Next z → Next n ≡ views_at s
-      unfolding views_at
-      nine_reached z q = let g = ended _ q in rw (← g) (cc (sections_end s a n e h))
-
-unread : (x : Step) (n : ℕ) (f : Fault) → and_then x (λ z. Next n) ≡ Stop f → x ≡ Stop f
-unread (Next z) n f e = absurd (clash f n (sym e))
-unread (Stop g) n f e = e
+unread : (x : Step) (n : ℕ) (f : Fault) → and_then x (λ z. Ok n) ≡ Err f → x ≡ Err f
+unread (Ok z) n f e = absurd (clash f n (sym e))
+unread (Err g) n f e = e
 
 module _ (s : List ℕ) (p : ℕ) where
   -- what the view question finds
   abbrev pub Finds : ℕ → ℕ → ℕ → Type 0
   Finds answer from len = (answer ≡ view_answer s p) × ((from ≡ part_from s p) × (len ≡ part_count s p))
 
-  refused : (f : Fault) → whole s ≡ Stop f → Finds f.answer 0 0
+  refused : (f : Fault) → whole s ≡ Err f → Finds f.answer 0 0
   unfolding view_answer part_from part_count
   refused f e = (simp e, (simp e, simp e))
 
-  pub view_refused : (f : Fault) → views_at s ≡ Stop f → Finds f.answer 0 0
+  pub view_refused : (f : Fault) → views_at s ≡ Err f → Finds f.answer 0 0
   unfolding views_at
   view_refused f e = refused f (unread (whole s) _ f e)
 
-  module _ (z : ℕ) (e : whole s ≡ Next z) where
+  pub view_unread : (f : Fault) → views_at s ≡ Err f → whole s ≡ Err f
+  unfolding views_at
+  view_unread f e = unread (whole s) _ f e
+
+  module _ (z : ℕ) (e : whole s ≡ Ok z) where
     unknown : num 1 s 1 ≤ p → Finds 4 0 0
     unfolding view_answer part_from part_count
     unknown h = (simp (e, le-ltb _ _ h), (simp (e, le-ltb _ _ h), simp (e, le-ltb _ _ h)))
@@ -80,7 +62,11 @@ module _ (s : List ℕ) (p : ℕ) where
         omega arith
     fits (no h) = let (a, (f, n)) = unknown (omega arith) in omega arith
 
-  module _ (n : ℕ) (e : views_at s ≡ Next n) where
+  module _ (n : ℕ) (e : views_at s ≡ Ok n) where
+    pub view_read : (z : ℕ) × (whole s ≡ Ok z)
+    unfolding views_at
+    view_read = let (z, q, g) = then_next (whole s) _ n e in (z, q)
+
     pub view_unknown : num 1 s 1 ≤ p → Finds 4 0 0
     unfolding views_at
     view_unknown h = let (z, q, g) = then_next (whole s) _ n e in unknown z q h
@@ -93,11 +79,11 @@ module _ (s : List ℕ) (p : ℕ) where
   part_fits = go (whole s) refl
     where
       go : (x : Step) → whole s ≡ x → part_from s p + part_count s p ≤ length s
-      go (Next z) e = fits z e (dec_lt p (num 1 s 1))
-      go (Stop f) e = let (a, (b, c)) = refused f e in omega arith
+      go (Ok z) e = fits z e (dec_lt p (num 1 s 1))
+      go (Err f) e = let (a, (b, c)) = refused f e in omega arith
 
 -- a record whose section 9 is reached has the form
-module _ (s : List ℕ) (n : ℕ) (e : views_at s ≡ Next n) where
+module _ (s : List ℕ) (n : ℕ) (e : views_at s ≡ Ok n) where
   pub reached_right : Right s
   unfolding views_at
   reached_right = let (z, q, g) = then_next (whole s) _ n e in whole_well s z q
@@ -116,3 +102,40 @@ two_fit s r =
 pub view_decided : (s : List ℕ) (p a b : ℕ) (x y : List ℕ) → a ≡ view_answer s p → b ≡ view_answer s p → x ≡ view_part s p → y ≡ view_part s p
     → (a ≡ b) × (x ≡ y)
 view_decided s p a b x y e f g h = (e ∙ sym f, g ∙ sym h)
+
+-- one refusal, or two values with P
+abbrev pub Same : {X : Type 0} → (X → X → Type 0) → Result X Unseen → Result X Unseen → Type 0
+Same P (Ok x) (Ok y) = P x y
+Same P (Err u) (Err v) = u ≡ v
+Same P (Ok x) (Err v) = ⊥
+Same P (Err u) (Ok y) = ⊥
+
+module _ (s : List ℕ) (p : ℕ) where
+  one_refusal : (u v : Unseen) → Refused s p u → Refused s p v → u ≡ v
+  one_refusal (Unread f) (Unread g) h k = cc
+  one_refusal (Unread f) NoProcessor h k = let (z, e) = k.0 in absurd (clash f z (sym h.0 ∙ e))
+  one_refusal NoProcessor (Unread g) h k = let (z, e) = h.0 in absurd (clash g z (sym k.0 ∙ e))
+  one_refusal NoProcessor NoProcessor h k = refl
+
+  never_both : (u : Unseen) → view_answer s p ≡ 0 → Refused s p u → ⊥
+  never_both (Unread f) a h =
+      let t : Fair (Err f) = rw h.0 at (fair_whole s) in
+      let z : f.answer ≡ 0 = h.1 ∙ a in
+      omega arith
+  never_both NoProcessor a h = let z : 4 ≡ 0 = h.2 ∙ a in omega arith
+
+  -- `find`
+  pub find_decided : (x y : Result Part Unseen) → MatchResult x (Located s p) (Refused s p) → MatchResult y (Located s p) (Refused s p)
+      → Same (λ v w. (v.at ≡ w.at) × (v.count ≡ w.count)) x y
+  find_decided (Ok v) (Ok w) h k = (h.1 ∙ sym k.1, h.2 ∙ sym k.2)
+  find_decided (Err u) (Err v) h k = one_refusal u v h k
+  find_decided (Ok v) (Err u) h k = never_both u h.0 k
+  find_decided (Err u) (Ok v) h k = never_both u k.0 h
+
+-- `view`
+pub part_decided : (s : Bor (List ℕ)) (p : ℕ) (x y : Result (Bor (List ℕ)) Unseen) → MatchResult x (Seen s p) (Refused s.now p) → MatchResult y (Seen s p) (Refused s.now p)
+    → Same (λ v w. v.now ≡ w.now) x y
+part_decided s p (Ok v) (Ok w) h k = h.1 ∙ sym k.1
+part_decided s p (Err u) (Err v) h k = one_refusal s.now p u v h k
+part_decided s p (Ok v) (Err u) h k = never_both s.now p u h.0 k
+part_decided s p (Err u) (Ok v) h k = never_both s.now p u k.0 h

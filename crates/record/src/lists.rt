@@ -1,6 +1,7 @@
 // The items of sections 5 and 8, and where a view stands, read in place.
 ghost use Rattle.std.specs.Prelude.{◌≡◌, ◌<◌};
-ghost use Rattle.order.specs.Least.{Hit};
+ghost use Rattle.order.specs.Decides.{Decides};
+ghost use Rattle.order.specs.Least.{Found};
 ghost use Rattle.form.specs.Place.{view_start};
 ghost use Rattle.form.specs.Right.{Right};
 ghost use Rattle.record.specs.Says.{execution_of};
@@ -28,27 +29,34 @@ pub fn reader_of(s: &[u8], sources: Part, i: usize) -> usize
     num1(s, from + 2 * i + 1)
 }
 
-// The first entry of section 5 for the event's place, or how many entries there are.
-pub fn initial_for(s: &[u8], initials: Part, x: Event) -> usize
-    requires { Right s.now × Stands s.now 5 initials }
-    ensures { Hit initials.count (λ i. InitialFor x ((execution_of s.now).initials.item i)) result }
+// Whether entry i of section 5 is for the event's place.
+fn is_for(s: &[u8], initials: Part, i: usize, x: Event) -> bool
+    requires { Right s.now × Stands s.now 5 initials × (i < initials.count) }
+    ensures { Decides result (InitialFor x ((execution_of s.now).initials.item i)) }
 {
-    let from = initials.at;
-    let m = initials.count;
-    let mut i = 0;
-    while i < m {
-        let at = from + 12 * i;
-        if num4(s, at + 4) == x.place {
-            let class = num1(s, at + 1);
-            if ((x.kind < 2) & (class == 0))
-                | ((2 <= x.kind) & ((class == 1) & (x.processor == num1(s, at))))
-            {
-                return i;
-            }
-        }
-        i += 1;
+    let at = initials.at + 12 * i;
+    if num4(s, at + 4) != x.place {
+        return false;
     }
-    m
+    let class = num1(s, at + 1);
+    if x.kind < 2 {
+        class == 0
+    } else {
+        class == 1 && num1(s, at) == x.processor
+    }
+}
+
+// The first entry of section 5 for the event's place.
+pub fn initial_for(s: &[u8], initials: Part, x: Event) -> Option<usize>
+    requires { Right s.now × Stands s.now 5 initials }
+    ensures { Found initials.count (λ i. InitialFor x ((execution_of s.now).initials.item i)) result }
+{
+    for i in 0..initials.count {
+        if is_for(s, initials, i, x) {
+            return Some(i);
+        }
+    }
+    None
 }
 
 // The value of entry i of section 5.

@@ -1,35 +1,27 @@
 // The view question: the part of the record that is a processor's view.
-ghost use Rattle.std.specs.Prelude.{◌≡◌, ◌<◌};
-ghost use Rattle.lent.specs.Part.{PartAt};
+ghost use Rattle.std.specs.Prelude.{◌≡◌, ◌<◌, MatchResult};
 ghost use Rattle.form.specs.Bytes.{num};
 ghost use Rattle.form.specs.Place.{start, view_start};
 ghost use Rattle.form.specs.Right.{Right};
-ghost use Rattle.record.specs.View.{view_answer, part_from, part_count, view_part, views_at};
+ghost use Rattle.record.specs.View.{views_at, Located, Seen, Refused};
 
-use crate::Found;
-use form::Step;
+use crate::{Part, Unseen};
+use form::Fault;
 use form::bytes::{num1, num2};
 use form::chain::sections;
 use form::place::counts;
 use form::whole::{head, tail};
 
 // Reads the whole record: where section 9 starts, or the first fault.
-fn views_at(s: &[u8]) -> Step
+#[tactic(auto, unfolding(crate::specs::View::views_at, form::specs::Whole::whole, form::specs::Whole::body), using(form::proofs::Rights::sections_end))]
+fn views_at(s: &[u8]) -> Result<usize, Fault>
     ensures { result ≡ views_at s.now }
 {
-    match head(s) {
-        Step::Stop(f) => Step::Stop(f),
-        Step::Next(a) => {
-            let c = counts(s);
-            match sections(c, s, a) {
-                Step::Stop(f) => Step::Stop(f),
-                Step::Next(nine) => match tail(c, s, nine) {
-                    Step::Stop(f) => Step::Stop(f),
-                    Step::Next(_) => Step::Next(nine),
-                },
-            }
-        }
-    }
+    let at = head(s)?;
+    let c = counts(s);
+    let nine = sections(c, s, at)?;
+    tail(c, s, nine)?;
+    Ok(nine)
 }
 
 // Where the view of processor `p` starts, its count included; section 9 starts at `nine`.
@@ -37,54 +29,32 @@ fn view_start(s: &[u8], nine: usize, p: u16) -> usize
     requires { Right s.now × (p < num 1 s.now 1) × (nine ≡ start s.now 9) }
     ensures { result ≡ view_start s.now p }
 {
-    let mut q: u16 = 0;
     let mut a = nine + 2;
-    while q < p {
+    for _q in 0..p {
         a = a + 2 + num2(s, a);
-        q = q + 1;
     }
     a
 }
 
-// The answer, and where the events of processor `p`'s view stand in the record and how many there are; both 0 on a refusal.
-pub fn find(s: &[u8], p: u16) -> Found
-    ensures answer { result.answer ≡ view_answer s.now p }
-    ensures from { result.from ≡ part_from s.now p }
-    ensures len { result.len ≡ part_count s.now p }
+// The events of processor `p`'s view.
+pub fn find(s: &[u8], p: u16) -> Result<Part, Unseen>
+    ensures { MatchResult result (Located s.now p) (Refused s.now p) }
 {
-    match views_at(s) {
-        Step::Stop(f) => Found {
-            answer: f.answer,
-            from: 0,
-            len: 0,
-        },
-        Step::Next(nine) => {
-            if num1(s, 1) <= p as usize {
-                return Found {
-                    answer: 4,
-                    from: 0,
-                    len: 0,
-                };
-            }
-            let at = view_start(s, nine, p);
-            Found {
-                answer: 0,
-                from: at + 2,
-                len: num2(s, at),
-            }
-        }
+    let nine = views_at(s)?;
+    if num1(s, 1) <= usize::from(p) {
+        return Err(Unseen::NoProcessor);
     }
+    let at = view_start(s, nine, p);
+    Ok(Part {
+        at: at + 2,
+        count: num2(s, at),
+    })
 }
 
-// The answer, and the events of processor `p`'s view as a part of the lent record itself; on a refusal an empty part.
-pub fn view<'a>(s: &'a [u8], p: u16, answer: &mut u16) -> &'a [u8]
-    ensures answer { answer.new ≡ view_answer s.now p }
-    ensures part { result.now ≡ view_part s.now p }
-    ensures place { PartAt s.entry (part_from s.now p) result }
+// The events of processor `p`'s view, as a part of the lent record itself.
+pub fn view(s: &[u8], p: u16) -> Result<&[u8], Unseen>
+    ensures { MatchResult result (Seen s.entry p) (Refused s.now p) }
 {
-    let f = find(s, p);
-    *answer = f.answer;
-    let from = f.from;
-    let to = from + f.len;
-    &s[from..to]
+    let part = find(s, p)?;
+    Ok(&s[part.at..part.at + part.count])
 }

@@ -12,8 +12,6 @@ ghost use Rattle.readoff.specs.Written.{ReadOff};
 ghost use Rattle.reader.specs.Entries.{item_at, open_answer, open_part};
 ghost use Rattle.reefmitten.specs.Entry.{section_of, place_of, length_of};
 
-use reader::Item;
-
 // The check.
 #[unsafe(no_mangle)]
 pub extern "C" fn reefmitten_check(s: &[u8], evidence: &mut [u16], written: &mut usize) -> u16
@@ -74,10 +72,18 @@ pub extern "C" fn reefmitten_view(
     ensures place { start.new ≡ part_from s.now processor }
     ensures count { length.new ≡ part_count s.now processor }
 {
-    let f = record::view::find(s, processor as u16);
-    *start = f.from;
-    *length = f.len;
-    f.answer
+    match record::view::find(s, u16::from(processor)) {
+        Ok(view) => {
+            *start = view.at;
+            *length = view.count;
+            0
+        }
+        Err(refusal) => {
+            *start = 0;
+            *length = 0;
+            refusal.answer()
+        }
+    }
 }
 
 // Opens a reader: the answer of reading, and how many bytes the reader goes over: all, or none on a refusal.
@@ -86,10 +92,16 @@ pub extern "C" fn reefmitten_open(s: &[u8], bytes: &mut usize) -> u16
     ensures answer { result ≡ open_answer s.now }
     ensures bytes { bytes.new ≡ length (open_part s.now) }
 {
-    let mut answer: u16 = 0;
-    let part = reader::opened(s, &mut answer);
-    *bytes = part.len();
-    answer
+    match reader::opened(s) {
+        Ok(part) => {
+            *bytes = part.len();
+            0
+        }
+        Err(fault) => {
+            *bytes = 0;
+            fault.answer
+        }
+    }
 }
 
 // The first entry at or after a place: its section, or 0 where there is none; its place and length, both 0 where there is none.
@@ -100,16 +112,12 @@ pub extern "C" fn reefmitten_next(s: &[u8], at: usize, start: &mut usize, length
     ensures length { length.new ≡ length_of (item_at s.now at) }
 {
     match reader::item_at(s, at) {
-        Item::Entry {
-            section,
-            at: place,
-            len,
-        } => {
-            *start = place;
-            *length = len;
-            section
+        Some(entry) => {
+            *start = entry.at;
+            *length = entry.len;
+            entry.section
         }
-        Item::Done => {
+        None => {
             *start = 0;
             *length = 0;
             0

@@ -1,4 +1,4 @@
--- The loop stands at the view of processor p, and the views that are left give the answer.
+-- The loop stands at a view, and the views that are left give the answer.
 use Prim.Native.Nat.{ℕ, ◌+◌}
 use mathlib.Core.Path.{◌≡◌}
 use native.Mathlib.Omega.{arith}
@@ -8,21 +8,21 @@ use Rattle.reader.specs.Entries.{view_from}
 use Rattle.reader.proofs.Firsts.{looking, look_none, look_found, look_next, view_is}
 use Rattle.reader.proofs.view_from.Goals as goal
 
-pub loop-p-init : goal.loop-p-init
+pub loop-init : goal.loop-init
 unfolding view_start view_from
-loop-p-init c = looking _ _ _ _ _ _ _ (cc) (omega arith) c.byte-processors.ensures.0
+loop-init c = looking _ _ _ _ _ _ _ (cc) (omega arith) c.byte-end.ensures.0
 
 pub returns-then-at-view : goal.returns-then-at-view
 returns-then-at-view c =
-    let l = c.loop-p in
-    look_found l.invariant _ _ (view_is _ l.p _ _ l.invariant.here c.count_at-len.ensures.0) (omega arith) (omega arith)
+    let l = c.loop in
+    look_found l.invariant _ _ (view_is _ l.counter _ _ l.invariant.here c.count_at-len.ensures.0) (omega arith) (omega arith)
 
-pub loop-p-preserved : goal.loop-p-preserved
-loop-p-preserved c =
-    let l = c.loop-p in
+pub loop-preserved : goal.loop-preserved
+loop-preserved c =
+    let l = c.loop in
     let n = c.count_at-len in
     let e : ◌≡◌ {A = ℕ} (l.view + (2 + n.result)) (l.view + 2 + n.result) = omega arith in
-    look_next l.invariant _ _ (view_is _ l.p _ _ l.invariant.here n.ensures.0) (omega arith) _ (omega arith) (cc (e, view_start_next _ l.p)) (omega arith)
+    look_next l.invariant _ _ (view_is _ l.counter _ _ l.invariant.here n.ensures.0) (omega arith) _ (omega arith) (cc (e, view_start_next _ l.counter)) (omega arith)
 
 pub returns : goal.returns
-returns c = look_none c.loop-p.invariant (omega arith)
+returns c = look_none c.loop.invariant (omega arith)
