@@ -6,15 +6,16 @@ use mathlib.Core.Logic.{◌⊎◌, inl, inr, ⊎_elim}
 use mathlib.Core.List.{List, [], ◌∷◌, ◌++◌, append-nil}
 use native.Mathlib.Omega.{arith}
 use native.Mathlib.Decide.{ℕ_discrete, dec_lt}
-use lib.ListN.{length, take, drop, set, get_or, length-take, length-drop, length-set, take-append-drop, drop_of_length-le}
+use lib.ListN.{length, take, drop, set, get_or, length-take, length-drop, take-append-drop, drop_of_length-le}
 use borrow.Author.Tests.{eq-eqb, ne_eqb}
 use lib.Seq.{get_or-take, split_at, set_split, length-take-le, take_all, take-take, take_at, drop_at, drop-cons, drop-length}
 use borrow.Rule.Slice.PartMut.{mid_of, post_of, put_mid, same_len_mid}
-use Rattle.order.specs.Least.{Hit}
+use Rattle.order.specs.Least.{None, Least}
+use Rattle.std.specs.List.{swap}
+use Rattle.std.proofs.lemmas.List.Edits.{swap_is}
 use Rattle.order.specs.Dictionary.{Lex, Firstly}
-use Rattle.order.proofs.Numbers.{last_or}
 use Rattle.arrangements.specs.Arrangement.{times, Arranged, Behind, Next}
-use Rattle.arrangements.specs.Steps.{Above, turned, Raised}
+use Rattle.arrangements.specs.Steps.{Above, Raised}
 
 -- ---- how often a number stands in a list
 
@@ -291,110 +292,26 @@ under_places a t f d i = go (dec_lt a d) (in_place d t i)
     go (yes l) (k, h, e) = absurd (f k h (omega arith))
     go (no n) s = omega arith
 
-pub raised_none : (l : List ℕ) (i : ℕ) → Hit (length l) (Above l) i → length l ≤ i → 0 < length l → Raised l (turned l) false
-raised_none [] i h m k = absurd (omega arith)
-raised_none (a ∷ t) i h m k = λ t₀ n.
-    step_none a t₀ t (ended t₀ t n) (under_places a t (λ j b u. h.none (suc j) (omega arith) (omega arith, u)))
+pub raised_none : (l : List ℕ) → None (length l) (Above l) → 0 < length l → Raised l (drop 1 l ++ take 1 l) false
+raised_none [] f k = absurd (omega arith)
+raised_none (a ∷ t) f k = λ t₀ n.
+    step_none a t₀ t (ended t₀ t n) (under_places a t (λ j b u. f (suc j) (omega arith) (omega arith, u)))
 
-pub raised_found : (l : List ℕ) (i : ℕ) → Hit (length l) (Above l) i → i < length l → Raised l (set (set l 0 (get_or l i 0)) i (get_or l 0 0)) true
-raised_found [] i h m = absurd (omega arith)
-raised_found (a ∷ t) zero h m = absurd (let z = (h.hit m).0 in omega arith)
-raised_found (a ∷ t) (suc j) h m = λ t₀ n.
+raised_swap : (l : List ℕ) (i : ℕ) → Least (Above l) i → i < length l → Raised l (set (set l 0 (get_or l i 0)) i (get_or l 0 0)) true
+raised_swap [] i h m = absurd (omega arith)
+raised_swap (a ∷ t) zero h m = absurd (let z = h.0.0 in omega arith)
+raised_swap (a ∷ t) (suc j) h m = λ t₀ n.
     let b : j < length t = omega arith in
     rw (set_split t j a b)
     (step_found a t₀ t (ended t₀ t n) (get_or t j 0) (take j t) (drop (suc j) t) (split_at t j 0 b)
-    (under_places a (take j t) (λ k c u. low k (omega (arith, length-take j t)) u)) (h.hit m).1)
+    (under_places a (take j t) (λ k c u. low k (omega (arith, length-take j t)) u)) h.0.1)
   where
     low : (k : ℕ) → k < j → a < get_or (take j t) k 0 → ⊥
-    low k c u = h.none (suc k) (omega arith) (omega arith, rw (get_or-take j t k 0 c) at u)
+    low k c u = h.1 (suc k) (omega arith) (omega arith, rw (get_or-take j t k 0 c) at u)
 
--- ---- what `above` does
-
--- no number at a place below i and below the found one is above the first, and the found one is
-pub record Seeking (l : List ℕ) (found i : ℕ) : Type 0 where
-  pub low : 0 < i
-  pub most : found ≤ length l
-  pub none : (k : ℕ) → k < i → k < found → Above l k → ⊥
-  pub hit : found < length l → Above l found
-
-pub seeking_none : (l : List ℕ) → Seeking l (length l) 1
-seeking_none l =
-    record {
-      low = omega arith;
-      most = omega arith;
-      none = λ k h g a. let z = a.0 in omega arith;
-      hit = λ h. absurd (omega arith);
-    }
-
-module _ (l : List ℕ) (found i : ℕ) (s : Seeking l found i) where
-  pub seeking_found : i < found → get_or l 0 0 < get_or l i 0 → Seeking l i (i + 1)
-  seeking_found h u =
-      let m = s.most in
-      record {
-        low = omega arith;
-        most = omega arith;
-        none = λ k g x. s.none k x (omega arith);
-        hit = λ g. (s.low, u);
-      }
-
-  pub seeking_more : get_or l i 0 ≤ get_or l 0 0 → Seeking l found (i + 1)
-  seeking_more n =
-      record {
-        low = omega arith;
-        most = s.most;
-        none = λ k g x a. ⊎_elim (λ e. here k e a) (λ h. s.none k h x a) (last_or i k (omega arith));
-        hit = s.hit;
-      }
-    where
-      here : (k : ℕ) → k ≡ i → Above l k → ⊥
-      here k e a = let b : get_or l 0 0 < get_or l i 0 = rw e at a.1 in omega arith
-
-  pub seeking_done : found ≤ i → Hit (length l) (Above l) found
-  seeking_done h = record { most = s.most; none = λ k g. s.none k (omega arith) g; hit = s.hit }
-
--- ---- what `turn` does
-
--- the first j numbers are those that stood one place further on
-abbrev pub shifted : ℕ → List ℕ → List ℕ
-shifted j l = take j (drop 1 l) ++ drop j l
-
--- the loop has come to place i
-pub record Shifting (l₀ l : List ℕ) (i : ℕ) : Type 0 where
-  pub low : 0 < i
-  pub high : i ≤ length l₀
-  pub same : length l ≡ length l₀
-  pub is : l ≡ shifted (i - 1) l₀
-
-shifted_more : (j : ℕ) (a : ℕ) (t : List ℕ) → j < length t
-    → set (shifted j (a ∷ t)) j (get_or (shifted j (a ∷ t)) (suc j) 0) ≡ shifted (suc j) (a ∷ t)
-shifted_more j a [] h = absurd (omega arith)
-shifted_more zero a (b ∷ t) h = refl
-shifted_more (suc j) a (b ∷ t) h = ap (λ (r : List ℕ). b ∷ r) (shifted_more j b t (omega arith))
-
-shifted_done : (a x : ℕ) (t : List ℕ) → set (shifted (length t) (a ∷ t)) (length t) x ≡ t ++ x ∷ []
-shifted_done a x [] = refl
-shifted_done a x (b ∷ t) = ap (λ (r : List ℕ). b ∷ r) (shifted_done b x t)
-
-pub shifting_none : (l : List ℕ) → 0 < length l → Shifting l l 1
-shifting_none l h = record { low = omega arith; high = omega arith; same = refl; is = refl }
-
-pub shifting_more : (l₀ l : List ℕ) (i : ℕ) → Shifting l₀ l i → i < length l₀ → Shifting l₀ (set l (i - 1) (get_or l i 0)) (i + 1)
-shifting_more [] l i s h = absurd (omega arith)
-shifting_more (a ∷ t) l zero s h = absurd (let x = s.low in omega arith)
-shifting_more (a ∷ t) l (suc j) s h =
-    let e : suc j - 1 ≡ j = omega arith in
-    let g : suc j + 1 - 1 ≡ suc j = omega arith in
-    record {
-      low = omega arith;
-      high = omega arith;
-      same = length-set l (suc j - 1) (get_or l (suc j) 0) ∙ s.same;
-      is = rw (g, s.is, e) (shifted_more j a t (omega arith));
-    }
-
-pub shifting_done : (l₀ l : List ℕ) (i : ℕ) → Shifting l₀ l i → length l₀ ≤ i → set l (i - 1) (get_or l₀ 0 0) ≡ turned l₀
-shifting_done [] l i s h = absurd (let x = s.low in let y = s.high in omega arith)
-shifting_done (a ∷ t) l i s h =
-    let e : i - 1 ≡ length t = (let y = s.high in omega arith) in rw (s.is, e) (shifted_done a a t)
+pub raised_found : (l : List ℕ) (i : ℕ) → Least (Above l) i → i < length l → Raised l (swap l 0 i) true
+raised_found l i h m =
+    subst (λ (w : List ℕ). Raised l w true) (swap_is l 0 i 0 (omega arith) m) (raised_swap l i h m)
 
 -- ---- the numbers before stay
 
@@ -441,10 +358,6 @@ pub record Rolled (l₀ l : List ℕ) (k : ℕ) : Type 0 where
 pub rolled_none : (l : List ℕ) → Rolled l l (length l)
 rolled_none l = record { upto = omega arith; same = refl; front = refl; rest = rw (drop-length l) next_none }
 
-pub rolled_done : (l₀ l : List ℕ) (k : ℕ) → Rolled l₀ l k → k ≤ 0 → Next l₀ l false
-rolled_done l₀ l zero s h = s.rest
-rolled_done l₀ l (suc k) s h = absurd (omega arith)
-
 pub rolled_at : (l₀ l : List ℕ) (k : ℕ) → Rolled l₀ l k → 0 < k → Rolled l₀ l (suc (k - 1))
 rolled_at l₀ l k s h = let e : k ≡ suc (k - 1) = omega arith in subst (λ (n : ℕ). Rolled l₀ l n) e s
 
@@ -454,9 +367,6 @@ module _ (l₀ l : List ℕ) (j : ℕ) (s : Rolled l₀ l (suc j)) where
 
   part_is : part ≡ drop j l
   part_is = take_all (length l - j) (drop j l) (omega (arith, length-drop j l))
-
-  pub part_some : 0 < length part
-  part_some = let u = s.upto in let e = s.same in omega (arith, ap length part_is, length-drop j l)
 
   same_front : take j l ≡ take j l₀
   same_front = sym (take-take j (suc j) l (omega arith)) ∙ ap (take j) s.front ∙ take-take j (suc j) l₀ (omega arith)

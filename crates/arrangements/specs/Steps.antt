@@ -1,15 +1,10 @@
 -- What the private steps of `next` promise.
-use Rattle.std.specs.Prelude.{ℕ, ◌<◌, Bool, false, List, [], ◌∷◌, ◌++◌, get_or}
+use Rattle.std.specs.Prelude.{ℕ, ◌<◌, Bool, false, List, [], ◌∷◌, get_or}
 use Rattle.arrangements.specs.Arrangement.{Next}
 
 -- the number at k, not the first, is above the first
 abbrev pub Above : List ℕ → ℕ → Type 0
 Above l k = (0 < k) × (get_or l 0 0 < get_or l k 0)
-
--- the first number goes behind the others
-abbrev pub turned : List ℕ → List ℕ
-turned [] = []
-turned (a ∷ t) = t ++ a ∷ []
 
 -- where the numbers behind the first came round from t₀, their last arrangement, to t, their first, m is next to a ∷ t₀
 abbrev pub Raised : List ℕ → List ℕ → Bool → Type 0

@@ -3,18 +3,16 @@
 // until `next` finds none has met every arrangement once.
 #![tactic(auto)]
 
-ghost use Rattle.std.specs.Prelude.{◌<◌, ◌≡◌, length};
-ghost use Rattle.order.specs.Least.{Hit};
+ghost use Rattle.std.specs.Prelude.{◌<◌, length, MatchOption};
+ghost use Rattle.order.specs.Least.{None, Least};
 ghost use Rattle.arrangements.specs.Arrangement.{Next};
-ghost use Rattle.arrangements.specs.Steps.{Above, turned, Raised};
+ghost use Rattle.arrangements.specs.Steps.{Above, Raised};
 
 // The next arrangement of the numbers, or, where there is none, the first; whether there was one.
 pub fn next(l: &mut [u8]) -> bool
     ensures { Next l.old l.new result }
 {
-    let mut k = l.len();
-    while 0 < k {
-        k -= 1;
+    for k in (0..l.len()).rev() {
         if raise(&mut l[k..]) {
             return true;
         }
@@ -22,33 +20,12 @@ pub fn next(l: &mut [u8]) -> bool
     false
 }
 
-// The first place, from 1 on, of a number above the one at 0; or the length.
-fn above(l: &[u8]) -> usize
-    ensures { Hit (length l.now) (Above l.now) result }
+// The first place of a number above the one at 0, if there is one.
+fn above(l: &[u8]) -> Option<usize>
+    ensures { MatchOption result (None (length l.now) (Above l.now)) (λ i. (i < length l.now) × Least (Above l.now) i) }
 {
-    let mut found = l.len();
-    let mut i: usize = 1;
-    while i < found {
-        if l[0] < l[i] {
-            found = i;
-        }
-        i += 1;
-    }
-    found
-}
-
-// Puts the first number behind the others.
-fn turn(l: &mut [u8])
-    requires { 0 < length l.old }
-    ensures { l.new ≡ turned l.old }
-{
-    let x = l[0];
-    let mut i: usize = 1;
-    while i < l.len() {
-        l[i - 1] = l[i];
-        i += 1;
-    }
-    l[i - 1] = x;
+    let first = *l.first()?;
+    l.iter().position(|x| first < *x)
 }
 
 // The numbers behind the first stand at their first arrangement, where they came from their last. Goes on to the next arrangement of
@@ -57,13 +34,14 @@ fn raise(l: &mut [u8]) -> bool
     requires { 0 < length l.old }
     ensures { Raised l.old l.new result }
 {
-    let i = above(l);
-    if i < l.len() {
-        let x = l[0];
-        l[0] = l[i];
-        l[i] = x;
-        return true;
+    match above(l) {
+        Some(i) => {
+            l.swap(0, i);
+            true
+        }
+        None => {
+            l.rotate_left(1);
+            false
+        }
     }
-    turn(l);
-    false
 }

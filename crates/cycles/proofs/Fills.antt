@@ -8,16 +8,17 @@ use native.Mathlib.Decide.{dec_lt}
 use native.Mathlib.Numerals.{add-one}
 use lib.ListN.{get_or, set, length, drop, length-append, length-set}
 use lib.Seq.{drop-cons, set_at, drop-set-lt}
-use Rattle.order.specs.Least.{Least, Hit}
+use Rattle.std.specs.Prelude.{Option, Some, None, IsSome}
+use Rattle.order.specs.Least.{Least, Found}
 use Rattle.order.specs.Relation.{Rel, Below}
 use Rattle.order.specs.Walk.{Walk}
-use Rattle.order.proofs.Searches.{found_less, hit_as}
+use Rattle.order.proofs.Searches.{found_as}
 use Rattle.order.proofs.Walks.{join, snoc, last, within_below}
 use Rattle.order.proofs.Cycles.{Greedy, shown}
 use Rattle.rows.specs.Members.{In, Is}
 use Rattle.rows.specs.Table.{rel, on}
 use Rattle.rows.specs.declared.Set.{Set}
-use Rattle.rows.proofs.Members.{is_as}
+use Rattle.rows.proofs.Members.{in_low, is_as}
 use Rattle.cycles.specs.Search.{Into, Distance, Shortest, Levels, Round}
 use Rattle.cycles.specs.Showing.{Exhibited}
 use Rattle.cycles.proofs.Searches.{walk_low}
@@ -25,7 +26,6 @@ use Rattle.cycles.proofs.Searches.{walk_low}
 -- i events are written, the last of them v; whatever goes on greedily from v ends a greedy trail from s
 pub record Filling (R : Rel) (n s len : ℕ) (before out : List ℕ) (v i : ℕ) : Type 0 where
   pub positive : 0 < i
-  pub upto : i ≤ len
   pub low : v < n
   pub room : len ≤ length before
   pub same : length out ≡ length before
@@ -41,7 +41,7 @@ first_set [] s h = absurd (omega arith)
 first_set (x ∷ l) s h = refl
 
 module _ (R : Rel) (n : ℕ) (below : Below n R) (s len : ℕ) (p : Shortest R len s) where
-  pub start_low : s < n
+  start_low : s < n
   start_low = walk_low R n below len s s p.positive p.closed
 
   pub fill_begin : (l : List ℕ) → len ≤ length l → Filling R n s len (set l 0 s) (set l 0 s) s 1
@@ -50,7 +50,6 @@ module _ (R : Rel) (n : ℕ) (below : Below n R) (s len : ℕ) (p : Shortest R l
       let e : len ≡ suc (len - 1) = omega arith in
       record {
         positive = omega arith;
-        upto = h;
         low = start_low;
         room = omega (arith, length-set l 0 s);
         same = refl;
@@ -63,20 +62,9 @@ module _ (R : Rel) (n : ℕ) (below : Below n R) (s len : ℕ) (p : Shortest R l
       }
 
   module _ (before out : List ℕ) (v i : ℕ) (f : Filling R n s len before out v i) (h : i < len) where
-    module _ (small : n ≤ 64) (c : ℕ) (g : Hit 64 (λ x. R v x × Walk R (len - i) x s) c) where
-      pub fill_less : c < 64
-      fill_less =
-          let (x, r, w) = f.ahead in
-          found_less 64 c x _ g (r, w) (let l = (below v x r).1 in omega arith)
-
-      here : R v c × Walk R (len - i) c s
-      here = g.hit fill_less
-
+    module _ (c : ℕ) (g : Least (λ x. R v x × Walk R (len - i) x s) c) where
       least : (m : List ℕ) → suc (length m) ≡ len - i → Least (λ x. R v x × Walk R (suc (length m)) x s) c
-      least m e = (
-        (here.0, subst (λ (k : ℕ). Walk R k c s) (sym e) here.1),
-        λ k l q. g.none k l (q.0, subst (λ (j : ℕ). Walk R j k s) e q.1),
-      )
+      least m e = subst (λ (k : ℕ). Least (λ x. R v x × Walk R k x s) c) (sym e) g
 
       next_written : set out i c ≡ (s ∷ (f.prefix ++ (c ∷ []))) ++ drop (i + 1) before
       next_written =
@@ -92,12 +80,11 @@ module _ (R : Rel) (n : ℕ) (below : Below n R) (s len : ℕ) (p : Shortest R l
           let b : suc (i - 1) ≡ i + 1 - 1 = omega arith in
           record {
             positive = omega arith;
-            upto = omega arith;
-            low = (below v c here.0).1;
+            low = (below v c g.0.0).1;
             room = f.room;
             same = length-set out i c ∙ f.same;
-            behind = subst (λ (k : ℕ). Walk R k s c) b (snoc R (i - 1) s v c f.behind here.0);
-            ahead = subst (λ (k : ℕ). Walk R k c s) e here.1;
+            behind = subst (λ (k : ℕ). Walk R k s c) b (snoc R (i - 1) s v c f.behind g.0.0);
+            ahead = subst (λ (k : ℕ). Walk R k c s) e g.0.1;
             prefix = f.prefix ++ (c ∷ []);
             long = omega (arith, length-append f.prefix (c ∷ []), f.long);
             written = next_written;
@@ -107,9 +94,8 @@ module _ (R : Rel) (n : ℕ) (below : Below n R) (s len : ℕ) (p : Shortest R l
   one_step : (v : ℕ) → Walk R 1 v s → R v s
   one_step v (x, r, y) = rw y at r
 
-  pub fill_done : (l out : List ℕ) (v i : ℕ) → Filling R n s len (set l 0 s) out v i → len ≤ i → Exhibited R l out len
-  fill_done l out v i f h =
-      let u = f.upto in
+  pub fill_done : (l out : List ℕ) (v i : ℕ) → Filling R n s len (set l 0 s) out v i → len ≤ i → i ≤ len → Exhibited R l out len
+  fill_done l out v i f h u =
       let e : i ≡ len = omega arith in
       let z : len - i ≡ 0 = omega arith in
       let w : Walk R 1 v s = subst (λ (k : ℕ). Walk R (suc k) v s) z f.ahead in
@@ -246,5 +232,10 @@ module _ (t : List ℕ) (n s len : ℕ) (p : Shortest (on n t) len s) where
           let d = nearest i c h (subst (λ (k : ℕ). Walk (on n t) k s c) e (snoc (on n t) (i - 1) s a c f.behind r)) m in
           (x.has c r.2, z.has c (y.has c ((v i c h).1 d), q.has c (inr (i, o, h, d, m))))
 
-      pub fill_next : (c : ℕ) → Hit 64 (In go) c → Hit 64 (λ x. on n t a x × Walk (on n t) (len - i) x s) c
-      fill_next c = hit_as (In go) _ 64 c (λ k m. way k (w.says k m)) (λ k m. w.has k (no_other k m))
+      -- it can go on, and goes to the least event that leads back to s
+      pub fill_goes : (r : Option ℕ) → Found 64 (In go) r → IsSome r
+      fill_goes None g = let (c, r, m) = f.ahead in let l = w.has c (no_other c (r, m)) in absurd (g c (in_low go c l) l)
+      fill_goes (Some c) g = refl
+
+      pub fill_next : (c : ℕ) → (c < 64) × Least (In go) c → Least (λ x. on n t a x × Walk (on n t) (len - i) x s) c
+      fill_next c l = (found_as 64 (In go) _ (λ k m. way k (w.says k m)) (λ k m. w.has k (no_other k m)) c l).1

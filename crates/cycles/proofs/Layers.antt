@@ -2,6 +2,7 @@
 use Prim.Native.Nat.{ℕ, zero, suc, ◌+◌, ◌-◌, ◌<◌, ◌≤◌}
 use mathlib.Core.Path.{◌≡◌, refl, sym, subst}
 use mathlib.Core.List.{List}
+use Rattle.std.specs.Prelude.{Some, None}
 use mathlib.Core.Logic.{◌⊎◌, inl, inr, ⊎_elim}
 use native.Mathlib.Omega.{arith}
 use native.Mathlib.Decide.{ℕ_discrete, dec_lt}
@@ -68,15 +69,13 @@ pub record Layered (R : Rel) (all : Set) (a : ℕ) (s f : Set) (k : ℕ) : Type 
   pub front : Is f (Distance R (k - 1) a)
 
 -- and b is not reached yet
-pub record Nearing (R : Rel) (all : Set) (a b limit : ℕ) (s f : Set) (k : ℕ) : Type 0 where
+pub record Nearing (R : Rel) (all : Set) (a b : ℕ) (s f : Set) (k : ℕ) : Type 0 where
   pub layer : Layered R all a s f k
-  pub most : k ≤ limit
   pub none : Reached R a k b → ⊥
 
 -- and row j of u has got what is j steps away, for j below k
-pub record Levelling (R : Rel) (all : Set) (a len : ℕ) (before u : List ℕ) (s f : Set) (k : ℕ) : Type 0 where
+pub record Levelling (R : Rel) (all : Set) (a : ℕ) (before u : List ℕ) (s f : Set) (k : ℕ) : Type 0 where
   pub layer : Layered R all a s f (k + 1)
-  pub most : k ≤ len
   pub adds : Adds before u (λ j x. (j < k) × Distance R j a x)
 
 module _ (R : Rel) (all : Set) (into : (a b : ℕ) → R a b → In all b) (a : ℕ) where
@@ -137,22 +136,21 @@ module _ (R : Rel) (all : Set) (into : (a b : ℕ) → R a b → In all b) (a : 
 
   -- ---- until b is reached
 
-  module _ (b limit : ℕ) where
-    pub near_begin : In all a → 0 < limit → (seen front : Set) → Is seen (λ k. ⊥) → Is front (λ j. j ≡ a) → Nearing R all a b limit seen front 1
-    near_begin h l seen front i j = record { layer = layer_begin h seen front i j; most = l; none = early b }
+  module _ (b : ℕ) where
+    pub near_begin : In all a → (seen front : Set) → Is seen (λ k. ⊥) → Is front (λ j. j ≡ a) → Nearing R all a b seen front 1
+    near_begin h seen front i j = record { layer = layer_begin h seen front i j; none = early b }
 
-    module _ (seen front : Set) (k : ℕ) (p : Nearing R all a b limit seen front k) (ahead new : Set)
+    module _ (seen front : Set) (k : ℕ) (p : Nearing R all a b seen front k) (ahead new : Set)
         (i : Is ahead (From R front)) (j : Is new (λ v. In ahead v × (In seen v → ⊥))) where
       l : Layered R all a seen front k
       l = p.layer
 
-      pub near_found : In new b → Away R a b limit k
-      near_found m = record { positive = p.layer.positive; most = p.most; walk = λ h. (arrives seen front k l ahead new i j b m).0; none = p.none }
+      pub near_found : (limit : ℕ) → k < limit → In new b → Away R a b limit (Some k)
+      near_found limit h m = (p.layer.positive, h, arrives seen front k l ahead new i j b m)
 
-      pub near_more : k < limit → (In new b → ⊥) → (both : Set) → Is both (λ v. In seen v ⊎ In new v) → Nearing R all a b limit both new (k + 1)
-      near_more h g both u = record {
+      pub near_more : (In new b → ⊥) → (both : Set) → Is both (λ v. In seen v ⊎ In new v) → Nearing R all a b both new (k + 1)
+      near_more g both u = record {
         layer = layer_more seen front k l ahead new i j both u;
-        most = omega arith;
         none = λ q. ⊎_elim (λ (e : q.0 ≡ k). g (takes seen front k l ahead new i j b (rw e at q.3, p.none))) (λ h. p.none (q.0, q.1, h, q.3)) (last_or k q.0 (omega arith));
       }
 
@@ -175,37 +173,29 @@ module _ (R : Rel) (all : Set) (into : (a b : ℕ) → R a b → In all b) (a : 
             let (u, x, r) = last R (d + k) a v (subst (λ (x : ℕ). Walk R x a v) e w) in
             one_on u v (dry d u x) r
 
-        pub near_none : 0 < limit → Away R a b limit limit
-        near_none l = record { positive = l; most = omega arith; walk = λ h. absurd (omega arith); none = λ q. far q.0 q.1 q.3 (dec_lt q.0 k) }
+        pub near_none : (limit : ℕ) → Away R a b limit None
+        near_none limit q = far q.0 q.1 q.3 (dec_lt q.0 k)
           where
             far : (j : ℕ) → 0 < j → Walk R j a b → Dec (j < k) → ⊥
             far j h w (yes m) = p.none (j, h, m, w)
             far j h w (no m) = let e : j ≡ j - k + k = omega arith in p.none (dry (j - k) b (subst (λ (x : ℕ). Walk R x a b) e w))
 
-    pub near_limit : (seen front : Set) (k : ℕ) → Nearing R all a b limit seen front k → limit ≤ k → 0 < limit → Away R a b limit limit
-    near_limit seen front k p h l = record {
-      positive = l;
-      most = omega arith;
-      walk = λ x. absurd (omega arith);
-      none = λ q. p.none (q.0, q.1, omega arith, q.3);
-    }
+    pub near_limit : (seen front : Set) (k limit : ℕ) → Nearing R all a b seen front k → limit ≤ k → Away R a b limit None
+    near_limit seen front k limit p h q = p.none (q.0, q.1, omega arith, q.3)
 
   -- ---- into a table
 
-  module _ (len : ℕ) (before : List ℕ) where
-    pub level_begin : In all a → (seen front : Set) → Is seen (λ k. ⊥) → Is front (λ j. j ≡ a) → Levelling R all a len before before seen front 0
+  module _ (before : List ℕ) where
+    pub level_begin : In all a → (seen front : Set) → Is seen (λ k. ⊥) → Is front (λ j. j ≡ a) → Levelling R all a before before seen front 0
     level_begin h seen front i j = record {
       layer = layer_begin h seen front i j;
-      most = omega arith;
       adds = adds_none before _ (λ j x q. let l = q.0 in omega arith);
     }
 
-    pub level_more : (u : List ℕ) (seen front : Set) (k : ℕ) → Levelling R all a len before u seen front k → k < len
-        → (v : List ℕ) → Adds u v (λ x y. (x ≡ k) × In front y) → (ahead new : Set) → Is ahead (From R front)
-        → Is new (λ v. In ahead v × (In seen v → ⊥)) → (both : Set) → Is both (λ v. In seen v ⊎ In new v) → Levelling R all a len before v both new (k + 1)
-    level_more u seen front k p h v d ahead new i j both o = record {
+    pub level_more : (u : List ℕ) (seen front : Set) (k : ℕ) → Levelling R all a before u seen front k → (v : List ℕ) → Adds u v (λ x y. (x ≡ k) × In front y) → (ahead new : Set) → Is ahead (From R front)
+        → Is new (λ v. In ahead v × (In seen v → ⊥)) → (both : Set) → Is both (λ v. In seen v ⊎ In new v) → Levelling R all a before v both new (k + 1)
+    level_more u seen front k p v d ahead new i j both o = record {
       layer = layer_more seen front (k + 1) p.layer ahead new i j both o;
-      most = omega arith;
       adds = adds_as before v _ _ there back (adds_then before u v _ _ p.adds d);
     }
       where
@@ -221,11 +211,6 @@ module _ (R : Rel) (all : Set) (into : (a b : ℕ) → R a b → In all b) (a : 
 
         back : (x y : ℕ) → (x < k + 1) × Distance R x a y → ((x < k) × Distance R x a y) ⊎ ((x ≡ k) × In front y)
         back x y q = ⊎_elim (λ (e : x ≡ k). inr (e, here.has y (rw e at q.1))) (λ l. inl (l, q.1)) (last_or k x (omega arith))
-
-    pub level_done : (u : List ℕ) (seen front : Set) (k : ℕ) → Levelling R all a len before u seen front k → len ≤ k
-        → Adds before u (λ j x. (j < len) × Distance R j a x)
-    level_done u seen front k p h = let m = p.most in let e : k ≡ len = omega arith in
-        subst (λ (z : ℕ). Adds before u (λ j x. (j < z) × Distance R j a x)) e p.adds
 
 -- the rows of a blank table
 pub levels_blank : (R : Rel) (s len : ℕ) (u : List ℕ) → Adds (replicate 64 0) u (λ k x. (k < len) × Distance R k s x) → Levels R u s len

@@ -40,7 +40,7 @@ module _ (t : List ℕ) (n s : ℕ) where
   }
 
   module _ (rest found : Set) (p : Reaching t n s rest found) (less : Set) (i : Is less (λ a. In rest a × (In found a → ⊥))) where
-    pub reach_low : (a : ℕ) → In less a → a < n
+    reach_low : (a : ℕ) → In less a → a < n
     reach_low a m = p.low a (i.says a m).0
 
     pub reach_less : Member found → value less < value rest

@@ -4,7 +4,7 @@ use mathlib.Core.Path.{◌≡◌, refl}
 use mathlib.Core.List.{List}
 use native.Mathlib.Omega.{arith}
 use native.Mathlib.Decide.{dec_lt}
-use Rattle.order.specs.Least.{Hit}
+use Rattle.order.specs.Least.{Least}
 use Rattle.order.specs.Relation.{Rel, Below, Cyclic}
 use Rattle.order.specs.Walk.{Walk}
 use Rattle.order.proofs.Walks.{short, join, snoc}
@@ -13,7 +13,7 @@ use Rattle.rows.specs.Members.{In, Is, Member}
 use Rattle.rows.specs.Table.{on}
 use Rattle.rows.proofs.Members.{value, subset_less}
 use Rattle.rows.specs.declared.Set.{Set}
-use Rattle.cycles.specs.Search.{among, Left, Reached, Away, Shortest}
+use Rattle.cycles.specs.Search.{among, Left, Reached, Distance, Shortest}
 use Rattle.cycles.proofs.Digs.{walk_as}
 
 pub walk_low : (R : Rel) (n : ℕ) → Below n R → (k a b : ℕ) → 0 < k → Walk R k a b → a < n
@@ -76,11 +76,10 @@ module _ (t : List ℕ) (n : ℕ) (live : Set) (len : ℕ) (f : (j x : ℕ) → 
   pub walk_among : (k a : ℕ) → k < len → Walk (on n t) k a a → Walk (among t live) k a a
   walk_among k a h w = part k 0 a a (omega arith) refl w
 
-module _ (t : List ℕ) (n : ℕ) (live : Set) (len s : ℕ) (p : Searching (on n t) n live len s) (x : ℕ) (m : In live x)
-    (f : Hit 64 (In live) x) (k : ℕ) (c : Away (among t live) x x len k)
+module _ (t : List ℕ) (n : ℕ) (live : Set) (len s : ℕ) (p : Searching (on n t) n live len s) (x : ℕ) (f : Least (In live) x)
     (rest : Set) (i : Is rest (λ j. In live j × (j ≡ x → ⊥))) (r : Set) (l : Left (among t rest) r × ((a : ℕ) → In r a → In rest a)) where
   pub search_less : value r < value live
-  search_less = subset_less live r (λ y q. (i.says y (l.1 y q)).0) x m (λ q. (i.says x (l.1 x q)).1 refl)
+  search_less = subset_less live r (λ y q. (i.says y (l.1 y q)).0) x f.0 (λ q. (i.says x (l.1 x q)).1 refl)
 
   low : (b : ℕ) → In r b → b < n
   low b q = p.low b (i.says b (l.1 b q)).0
@@ -99,22 +98,22 @@ module _ (t : List ℕ) (n : ℕ) (live : Set) (len s : ℕ) (p : Searching (on 
     covers zero y a b w = absurd (omega arith)
     covers (suc j) y a b w = l.0.covers j y (walk_among t n rest d others (suc j) y b w)
 
-  pub search_better : k < len → Searching (on n t) n r k x
-  search_better h = record {
-    positive = c.positive;
+  pub search_better : (k : ℕ) → (0 < k) × (k < len) × Distance (among t live) k x x → Searching (on n t) n r k x
+  search_better k (y, h, c) = record {
+    positive = y;
     most = let q = p.most in omega arith;
     low = low;
-    covers = covers k c.most c.none;
-    closed = λ q. walk_as (among t live) (on n t) (λ a b u. (p.low a u.0, p.low b u.1, u.2)) k x x (c.walk h);
-    least = λ q b y w. f.none b y (p.covers k b c.positive h w);
+    covers = covers k (omega arith) c.1;
+    closed = λ q. walk_as (among t live) (on n t) (λ a b u. (p.low a u.0, p.low b u.1, u.2)) k x x c.0;
+    least = λ q b l w. f.1 b l (p.covers k b y h w);
   }
 
-  pub search_same : len ≤ k → Searching (on n t) n r len s
-  search_same h = record {
+  pub search_same : (Reached (among t live) x len x → ⊥) → Searching (on n t) n r len s
+  search_same g = record {
     positive = p.positive;
     most = p.most;
     low = low;
-    covers = covers len (omega arith) (λ (j, y, z, w). c.none (j, y, omega arith, w));
+    covers = covers len (omega arith) g;
     closed = p.closed;
     least = p.least;
   }

@@ -1,5 +1,5 @@
 -- What the functions find on their way to the cycle that is shown. R is the relation of a table's first n rows.
-use Rattle.std.specs.Prelude.{ℕ, suc, ◌-◌, ◌<◌, ◌≤◌, ◌≡◌, List, ◌⊎◌, ◌↔◌}
+use Rattle.std.specs.Prelude.{ℕ, suc, ◌-◌, ◌<◌, ◌≤◌, ◌≡◌, List, ◌⊎◌, ◌↔◌, Option, MatchOption}
 use Rattle.order.specs.Relation.{Rel, Cyclic}
 use Rattle.order.specs.Walk.{Walk}
 use Rattle.rows.specs.Members.{In}
@@ -31,12 +31,9 @@ Reached R a k b = (j : ℕ) × (0 < j) × (j < k) × Walk R j a b
 abbrev pub Distance : Rel → ℕ → ℕ → ℕ → Type 0
 Distance R k a b = Walk R k a b × (Reached R a k b → ⊥)
 
--- r steps, at least one, lead from a to b and no fewer, if r is below the limit; else fewer than the limit do not
-pub record Away (R : Rel) (a b limit r : ℕ) : Type 0 where
-  pub positive : 0 < r
-  pub most : r ≤ limit
-  pub walk : r < limit → Walk R r a b
-  pub none : Reached R a r b → ⊥
+-- r is the least number of steps, at least one and below the limit, that lead from a to b, if there is one
+abbrev pub Away : Rel → ℕ → ℕ → ℕ → Option ℕ → Type 0
+Away R a b limit r = MatchOption r (Reached R a limit b → ⊥) (λ k. (0 < k) × (k < limit) × Distance R k a b)
 
 -- len is the length of the shortest closed walk, and s the least event with one as short
 pub record Shortest (R : Rel) (len s : ℕ) : Type 0 where

@@ -12,50 +12,41 @@ ghost use Rattle.cycles.specs.Showing.{Showing, Exhibited};
 
 use rows::Set;
 
-fn wide(x: u8) -> usize
-    ensures { result ≡ x }
-{
-    x as usize
-}
-
 // What is left of a set when events with no step into what is left are taken away: one path, depth first, that goes back where it
 // cannot go on. It goes to the greatest event that it can, since events mostly happen before later numbered ones. Each event that it
-// goes to keeps the event that it came from (the first itself), the others 64. A step to an event on the path closes a cycle, and the
-// rest is not looked at.
+// goes to keeps the event that it came from; its start has none. A step to an event on the path closes a cycle, and the rest is not
+// looked at.
 fn dig(t: &[u64], all: Set) -> Set
     requires { (a : ℕ) → In all a → HasRow t.now a }
     ensures { Left (among t.now all) result × ((a : ℕ) → In result a → In all a) }
 {
     let mut live = all;
-    if !rows::any(live) {
+    let Some(mut start) = live.first() else {
         return live;
-    }
-    let mut v = rows::first(live);
-    let mut from = [64u8; 64];
-    from[v] = v as u8;
+    };
+    let mut v = start;
+    let mut from: [Option<u8>; 64] = [None; 64];
     loop {
-        let next = rows::common(rows::row(t, v), live);
-        if rows::any(next) {
-            let w = rows::last(next);
-            if !rows::meets(rows::row(t, w), live) {
-                live = rows::without(live, w);
-            } else if from[w] == 64 {
-                from[w] = v as u8;
-                v = w;
-            } else {
+        let next = rows::row(t, v) & live;
+        if let Some(w) = next.last() {
+            if !rows::row(t, w).meets(live) {
+                live = live.without(w);
+            } else if w == start || from[w].is_some() {
                 return live;
+            } else {
+                from[w] = Some(v as u8);
+                v = w;
             }
         } else {
-            live = rows::without(live, v);
-            let p = wide(from[v]);
-            if p == v {
-                v = rows::first(live);
-                if 64 <= v {
-                    return live;
-                }
-                from[v] = v as u8;
+            // Taken out by `-`: with `without` the search takes up to two fifths more instructions.
+            live = live - Set::one(v);
+            if let Some(p) = from[v] {
+                v = usize::from(p);
+            } else if let Some(next_start) = live.first() {
+                start = next_start;
+                v = start;
             } else {
-                v = p;
+                return live;
             }
         }
     }
@@ -66,7 +57,7 @@ pub fn left(t: &[u64], n: usize) -> Set
     requires { (n ≤ 64) × HasRows t.now n }
     ensures { Left (on n t.now) result }
 {
-    dig(t, rows::full(n))
+    dig(t, Set::full(n))
 }
 
 // Whether there is a cycle.
@@ -74,7 +65,7 @@ pub fn cyclic(t: &[u64], n: usize) -> bool
     requires { (n ≤ 64) × HasRows t.now n }
     ensures { Decides result (Cyclic (on n t.now)) }
 {
-    rows::any(left(t, n))
+    left(t, n).any()
 }
 
 // The members of all to which a member of w has a step.
@@ -82,36 +73,31 @@ fn onward(t: &[u64], all: Set, w: Set) -> Set
     requires { ((a : ℕ) → In all a → HasRow t.now a) × ((a : ℕ) → In w a → In all a) }
     ensures { Is result (From (among t.now all) w) }
 {
-    let mut from = w;
-    let mut r = rows::none();
-    while rows::any(from) {
-        let a = rows::first(from);
-        r = rows::union(r, rows::row(t, a));
-        from = rows::without(from, a);
+    let mut r = Set::none();
+    for a in w {
+        r = r | rows::row(t, a);
     }
-    rows::common(r, all)
+    r & all
 }
 
-// How many steps lead from s through members of all back to s, if that is below the limit; else the limit.
-fn steps(t: &[u64], all: Set, s: usize, limit: usize) -> usize
-    requires { ((a : ℕ) → In all a → HasRow t.now a) × In all s × (0 < limit) }
+// How many steps lead from s through members of all back to s, if that is below the limit.
+fn steps(t: &[u64], all: Set, s: usize, limit: usize) -> Option<usize>
+    requires { ((a : ℕ) → In all a → HasRow t.now a) × In all s }
     ensures { Away (among t.now all) s s limit result }
 {
-    let mut seen = rows::none();
-    let mut front = rows::one(s);
-    let mut k = 1;
-    while k < limit {
-        front = rows::minus(onward(t, all, front), seen);
-        if rows::has(front, s) {
-            return k;
+    let mut seen = Set::none();
+    let mut front = Set::one(s);
+    for k in 1..limit {
+        front = onward(t, all, front) - seen;
+        if front.has(s) {
+            return Some(k);
         }
-        if !rows::any(front) {
-            return limit;
+        if !front.any() {
+            return None;
         }
-        seen = rows::union(seen, front);
-        k += 1;
+        seen = seen | front;
     }
-    limit
+    None
 }
 
 // A number of steps, and an event.
@@ -122,24 +108,21 @@ pub struct Found {
 }
 
 // The length of the shortest cycle, and the least event on one as short. Every cycle is in live. Starts are tried from the least
-// on, each through what is left when those before it are taken away.
+// on, each through what is left when those before it are taken away, and only for a cycle shorter than the shortest so far; the first
+// bound, n + 1, is longer than any.
 fn shortest(t: &[u64], n: usize, live: Set) -> Found
     requires { (n ≤ 64) × HasRows t.now n × Left (on n t.now) live × Member live }
     ensures { Shortest (on n t.now) result.len result.at }
 {
-    let mut len = n + 1;
-    let mut at = 0;
-    let mut rest = rows::common(live, rows::full(n));
-    while rows::any(rest) {
-        let s = rows::first(rest);
-        let k = steps(t, rest, s, len);
-        if k < len {
-            len = k;
-            at = s;
+    let mut found = Found { len: n + 1, at: 0 };
+    let mut rest = live & Set::full(n);
+    while let Some(at) = rest.first() {
+        if let Some(len) = steps(t, rest, at, found.len) {
+            found = Found { len, at };
         }
-        rest = dig(t, rows::without(rest, s));
+        rest = dig(t, rest.without(at));
     }
-    Found { len, at }
+    found
 }
 
 // The members of `from` with a step to a member of w.
@@ -147,14 +130,11 @@ fn back(t: &[u64], from: Set, w: Set) -> Set
     requires { (a : ℕ) → In from a → HasRow t.now a }
     ensures { Is result (λ a. In from a × Into (rel t.now) w a) }
 {
-    let mut rest = from;
-    let mut r = rows::none();
-    while rows::any(rest) {
-        let a = rows::first(rest);
-        if rows::meets(rows::row(t, a), w) {
-            r = rows::union(r, rows::one(a));
+    let mut r = Set::none();
+    for a in from {
+        if rows::row(t, a).meets(w) {
+            r = r | Set::one(a);
         }
-        rest = rows::without(rest, a);
     }
     r
 }
@@ -164,15 +144,13 @@ fn levels(t: &[u64], n: usize, s: usize, len: usize, u: &mut [u64])
     requires { (n ≤ 64) × HasRows t.now n × (s < n) × HasRows u.old len }
     ensures { Adds u.old u.new (λ k x. (k < len) × Distance (on n t.now) k s x) }
 {
-    let all = rows::full(n);
-    let mut seen = rows::none();
-    let mut front = rows::one(s);
-    let mut k = 0;
-    while k < len {
+    let all = Set::full(n);
+    let mut seen = Set::none();
+    let mut front = Set::one(s);
+    for k in 0..len {
         rows::add(u, k, front);
-        front = rows::minus(onward(t, all, front), seen);
-        seen = rows::union(seen, front);
-        k += 1;
+        front = onward(t, all, front) - seen;
+        seen = seen | front;
     }
 }
 
@@ -181,11 +159,9 @@ fn closing(t: &[u64], n: usize, u: &[u64], s: usize, len: usize) -> Set
     requires { (n ≤ 64) × HasRows t.now n × HasRows u.now len × Shortest (on n t.now) len s × Levels (on n t.now) u.now s len }
     ensures { Is result (Round (on n t.now) s len 1) }
 {
-    let mut r = rows::one(s);
-    let mut k = len;
-    while 1 < k {
-        k -= 1;
-        r = rows::union(r, back(t, rows::row(u, k), r));
+    let mut r = Set::one(s);
+    for k in (1..len).rev() {
+        r = r | back(t, rows::row(u, k), r);
     }
     r
 }
@@ -198,11 +174,10 @@ fn write(t: &[u64], n: usize, u: &[u64], good: Set, s: usize, len: usize, out: &
 {
     out[0] = s as u16;
     let mut v = s;
-    let mut i = 1;
-    while i < len {
-        v = rows::first(rows::common(rows::row(t, v), rows::common(rows::row(u, i), good)));
+    for i in 1..len {
+        let next = rows::row(t, v) & (rows::row(u, i) & good);
+        v = next.first().unwrap();
         out[i] = v as u16;
-        i += 1;
     }
 }
 
@@ -217,20 +192,18 @@ fn fill(t: &[u64], n: usize, s: usize, len: usize, out: &mut [u16])
     write(t, n, &u, good, s, len, out);
 }
 
-// Writes the cycle that is shown, if there is a cycle, and returns how many entries it has; else 0.
-pub fn show(t: &[u64], n: usize, out: &mut [u16]) -> usize
+// Writes the cycle that is shown, if there is a cycle, and returns how many entries it has.
+pub fn show(t: &[u64], n: usize, out: &mut [u16]) -> Option<usize>
     requires { (n ≤ 64) × HasRows t.now n × (n ≤ length out.old) }
     ensures { Showing (on n t.now) out.old out.new result }
 {
     let live = left(t, n);
-    if !rows::any(live) {
-        return 0;
+    if !live.any() {
+        return None;
     }
-    let f = shortest(t, n, live);
-    let len = f.len;
-    let at = f.at;
+    let Found { len, at } = shortest(t, n, live);
     fill(t, n, at, len, out);
-    len
+    Some(len)
 }
 
 // The events with a chain of steps to s.
@@ -238,11 +211,11 @@ pub fn reach(t: &[u64], n: usize, s: usize) -> Set
     requires { (n ≤ 64) × HasRows t.now n × (s < n) }
     ensures { Is result (λ a. Chain (on n t.now) a s) }
 {
-    let mut rest = rows::full(n);
-    let mut found = back(t, rest, rows::one(s));
-    while rows::any(found) {
-        rest = rows::minus(rest, found);
+    let mut rest = Set::full(n);
+    let mut found = back(t, rest, Set::one(s));
+    while found.any() {
+        rest = rest - found;
         found = back(t, rest, found);
     }
-    rows::minus(rows::full(n), rest)
+    Set::full(n) - rest
 }

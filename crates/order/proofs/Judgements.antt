@@ -1,10 +1,11 @@
 -- The judgement of a list of rules: two that it allows are one, it is 0 exactly if every rule is kept, and it is made rule after rule.
-use Prim.Native.Nat.{ℕ, ◌<◌, ◌≤◌}
+use Prim.Native.Nat.{ℕ, ◌≤◌}
 use mathlib.Core.Path.{◌≡◌, refl, sym, ap, ap₂, ◌∙◌, subst}
 use mathlib.Core.Logic.{inl, inr}
 use mathlib.Core.List.{List, [], ◌∷◌, ◌++◌}
 use native.Mathlib.Omega.{arith}
 use lib.ListN.{length, drop}
+use Rattle.std.specs.Prelude.{Some}
 use Rattle.order.specs.Rule.{Rule, Shows, Kept, Judged, AllKept, Numbered}
 use Rattle.order.specs.Evidence.{Written, Ruled, Given}
 use Rattle.order.proofs.Dictionaries.{firstly_unique}
@@ -66,14 +67,9 @@ judged_kept (q ∷ qs) rs a e o (inl j) = absurd (o.0 j.1)
 judged_kept (q ∷ qs) rs a e o (inr j) = (j.0, judged_kept qs rs a e o.1 j.1)
 
 -- ---- a check, rule after rule
-pub rule_shown : (q : Rule) (qs : List Rule) (b a : List ℕ) (k : ℕ) → Ruled q b a k → 0 < k → Given (Judged (q ∷ qs)) b a q.number k
+pub rule_shown : (q : Rule) (qs : List Rule) (b a : List ℕ) (k : ℕ) → Ruled q b a (Some k) → Given (Judged (q ∷ qs)) b a q.number k
 unfolding Judged
-rule_shown q qs b a k (inl (f, z, e)) l = absurd (omega arith)
-rule_shown q qs b a k (inr (e, s, l, w)) h = (e, inl (s, refl), w)
-
-pub rule_kept : (q : Rule) (b a : List ℕ) (k : ℕ) → Ruled q b a k → (0 < k → ⊥) → Kept q × (a ≡ b)
-rule_kept q b a k (inl (f, z, e)) l = (f, e)
-rule_kept q b a k (inr (e, s, l, w)) h = absurd (h l)
+rule_shown q qs b a k (e, s, l, w) = (e, inl (s, refl), w)
 
 pub given_next : (q : Rule) (qs : List Rule) (b a : List ℕ) (n k : ℕ) → Kept q → Given (Judged qs) b a n k → Given (Judged (q ∷ qs)) b a n k
 unfolding Judged

@@ -6,7 +6,9 @@ use mathlib.Core.List.{List, [], ◌∷◌, ◌++◌}
 use lib.ListN.{length, set, drop}
 use native.Mathlib.Decide.{dec_lt}
 use native.Mathlib.Omega.{arith}
-use Rattle.order.specs.Least.{None, Hit}
+use Rattle.std.specs.Prelude.{Option, Some, IsSome}
+use Rattle.std.specs.declared.option.Option.TheVariants.{None as Nothing}
+use Rattle.order.specs.Least.{None, Least, Found, Hit}
 use Rattle.order.specs.Dictionary.{Firstly}
 use Rattle.order.specs.Rule.{Rule, Judged, About, Of, Any, rule, entry_rule}
 use Rattle.order.specs.Evidence.{Given}
@@ -53,7 +55,38 @@ module _ (P : ℕ → Type 0) where
   pub hit_as : (Q : ℕ → Type 0) (n r : ℕ) → ((k : ℕ) → P k → Q k) → ((k : ℕ) → Q k → P k) → Hit n P r → Hit n Q r
   hit_as Q n r f g h = record { most = h.most; none = λ k l q. h.none k l (g k q); hit = λ l. f r (h.hit l) }
 
--- a search that must find does
+-- what a search finds, as a number: it, or n
+module _ (n : ℕ) (P : ℕ → Type 0) where
+  pub found_hit : (r : ℕ) → (r < n) × Least P r → Hit n P r
+  found_hit r f = record { most = omega (arith, f.0); none = f.1.1; hit = λ h. f.1.0 }
+
+  pub none_hit : None n P → Hit n P n
+  none_hit f = record { most = omega arith; none = f; hit = λ h. absurd (omega arith) }
+
+  pub hit_found : (r : ℕ) → Hit n P r → r < n → (r < n) × Least P r
+  hit_found r h l = (l, (h.hit l, h.none))
+
+  pub hit_none : (r : ℕ) → Hit n P r → n ≤ r → None n P
+  hit_none r h l k m p = h.none k (omega arith) p
+
+-- what is found under another name for its property
+module _ (n : ℕ) (P Q : ℕ → Type 0) (f : (k : ℕ) → P k → Q k) (g : (k : ℕ) → Q k → P k) where
+  pub found_as : (r : ℕ) → (r < n) × Least P r → (r < n) × Least Q r
+  found_as r h = (h.0, (f r h.1.0, (λ k l q. h.1.1 k l (g k q))))
+
+  pub none_as : None n P → None n Q
+  none_as h k l q = h k l (g k q)
+
+-- a search that must find does, and what it gives then
+module _ (n : ℕ) (P : ℕ → Type 0) where
+  pub found_some : (r : Option ℕ) → Found n P r → (None n P → ⊥) → IsSome r
+  found_some (Some k) f g = refl
+  found_some Nothing f g = absurd (g f)
+
+  pub found_at : (r : Option ℕ) (k : ℕ) → Found n P r → r ≡ Some k → (k < n) × Least P k
+  found_at r k f e = rw e at f
+
+-- the same of a number
 pub found_less : (n r k : ℕ) (P : ℕ → Type 0) → Hit n P r → P k → k < n → r < n
 found_less n r k P h p l = go (dec_lt r n)
   where

@@ -1,5 +1,5 @@
 -- Numbers with a property: one below a bound, none, the least, what a search for the least gives, and how many.
-use Rattle.std.specs.Prelude.{ℕ, zero, suc, ◌<◌, ◌≤◌, ◌≡◌, ◌⊎◌}
+use Rattle.std.specs.Prelude.{ℕ, zero, suc, ◌<◌, ◌≤◌, ◌≡◌, ◌⊎◌, Option, MatchOption}
 
 -- a number below n has P
 abbrev pub Some : ℕ → (ℕ → Type 0) → Type 0
@@ -23,3 +23,7 @@ pub record Hit (n : ℕ) (P : ℕ → Type 0) (r : ℕ) : Type 0 where
 unfoldable pub Counted : ℕ → (ℕ → Type 0) → ℕ → Type 0
 Counted zero P r = r ≡ 0
 Counted (suc n) P r = (P n × ((m : ℕ) × (r ≡ suc m) × Counted n P m)) ⊎ ((P n → ⊥) × Counted n P r)
+
+-- r is the least number below n with P, if there is one
+abbrev pub Found : ℕ → (ℕ → Type 0) → Option ℕ → Type 0
+Found n P r = MatchOption r (None n P) (λ m. (m < n) × Least P m)

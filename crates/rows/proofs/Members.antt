@@ -14,7 +14,7 @@ use lib.Count.{ones, count_leading_zeros, count_trailing_zeros, trailing_le, tra
 use Rattle.order.specs.Decides.{Decides}
 use Rattle.order.proofs.Searches.{found_less}
 use Rattle.order.proofs.Tests.{by_as}
-use Rattle.order.specs.Least.{Hit, Counted}
+use Rattle.order.specs.Least.{Hit, Least, Counted}
 use Rattle.order.proofs.Numbers.{counted_as}
 use Rattle.rows.specs.Members.{bit, In, Is, Member, Meet, Greatest}
 use Rattle.rows.specs.declared.Set.{Set}
@@ -81,6 +81,11 @@ subset_less x y f m i g =
     less : Y ≤ X → Dec (Y ≡ X) → Y < X
     less h (yes e) = absurd (g (i.0, sym (bit_mod y.word 64 m i.0) ∙ ap (λ (z : ℕ). bit z m) e ∙ bit_mod x.word 64 m i.0 ∙ i.1))
     less h (no d) = omega arith
+
+-- a set without a member that it had
+pub rest_less : (s t : Set) (a : ℕ) → In s a → Is t (λ j. In s j × (j ≡ a → ⊥)) → t.word % 2 ^ 64 < s.word % 2 ^ 64
+unfolding value
+rest_less s t a m i = subset_less s t (λ k r. (i.says k r).0) a m (λ r. (i.says a r).1 refl)
 
 -- a loop that takes out the least member, again and again
 module _ (s : Set) (some : Member s) (a : ℕ) (f : Hit 64 (In s) a) where
@@ -189,6 +194,14 @@ module _ (w k : ℕ) (i : In (word w) k) where
 pub size_counted : (w : ℕ) → w < 2 ^ 64 → Counted 64 (In (word w)) (ones w)
 unfolding In
 size_counted w h = counted_as 64 (On w) (In (word w)) (ones w) (λ k l p. (l, p)) (λ k l p. p.1) (ones_counted 64 w h)
+
+pub none_in_zero : (w : ℕ) → w ≡ 0 → Member (word w) → ⊥
+unfolding In
+none_in_zero w e (k, p) = let q = on_pos w k p.1 in omega arith
+
+pub first_found : (w : ℕ) → w < 2 ^ 64 → (w ≡ 0 → ⊥) → Least (In (word w)) (count_trailing_zeros 64 w)
+unfolding In
+first_found w h g = let f = trailing_first 64 w (omega arith) h in ((f.0, f.1), (λ k l p. let e = p.1 in omega (arith, f.2 k l)))
 
 pub first_hit : (w : ℕ) → w < 2 ^ 64 → Hit 64 (In (word w)) (count_trailing_zeros 64 w)
 unfolding In

@@ -1,5 +1,6 @@
 -- The members of a set.
-use Rattle.std.specs.Prelude.{ℕ, ◌<◌, ◌≤◌, ◌/◌, ◌%◌, ◌^◌, ◌≡◌}
+use Rattle.std.specs.Prelude.{ℕ, ◌<◌, ◌≤◌, ◌/◌, ◌%◌, ◌^◌, ◌≡◌, Option, Some, None}
+use Rattle.order.specs.Least.{Least}
 use Rattle.rows.specs.declared.Set.{Set}
 
 -- bit k of a word: 0 or 1
@@ -25,3 +26,8 @@ Greatest s m = In s m × ((k : ℕ) → In s k → k ≤ m)
 pub record Is (s : Set) (P : ℕ → Type 0) : Type 0 where
   pub says : (k : ℕ) → In s k → P k
   pub has : (k : ℕ) → P k → In s k
+
+-- r is the least member of s, if it has one, and t has the others
+abbrev pub Takes : Set → Option ℕ → Set → Type 0
+Takes s (Some k) t = Least (In s) k × Is t (λ j. In s j × (j ≡ k → ⊥))
+Takes s None t = Member s → ⊥

@@ -2,128 +2,182 @@
 // Promises: what each makes of the members of sets and of the pairs of relations. No crate above looks into a word.
 #![tactic(auto)]
 
-ghost use Rattle.std.specs.Prelude.{◌≡◌, ◌⊎◌, ◌<◌, ◌≤◌, ◌++◌, take, drop};
+ghost use Rattle.std.specs.Prelude.{◌≡◌, ◌⊎◌, ◌<◌, ◌≤◌, ◌++◌, ◌%◌, ◌^◌, take, drop, MatchOption};
+ghost use Rattle.std.specs.Iterator.{at_most};
 ghost use Rattle.order.specs.Decides.{Decides};
-ghost use Rattle.order.specs.Least.{Hit, Counted};
-ghost use Rattle.rows.specs.Members.{In, Is, Member, Meet, Greatest};
+ghost use Rattle.order.specs.Least.{Found, Counted};
+ghost use Rattle.rows.specs.Members.{In, Is, Member, Meet, Greatest, Takes};
 ghost use Rattle.rows.specs.Table.{HasRow, HasRows, rel, Adds};
 
+use std::ops::{BitAnd, BitOr, Sub};
+
 // A set of events below 64.
-#[derive(Clone, Copy)]
+#[derive(Clone, Copy, PartialEq, Eq)]
 pub struct Set {
     pub word: u64,
 }
 
-// The empty set.
-pub fn none() -> Set
-    ensures { Is result (λ k. ⊥) }
-{
-    Set { word: 0 }
-}
+impl Set {
+    // The empty set.
+    pub fn none() -> Set
+        ensures { Is result (λ k. ⊥) }
+    {
+        Set { word: 0 }
+    }
 
-// The events below n.
-pub fn full(n: usize) -> Set
-    requires { n ≤ 64 }
-    ensures { Is result (λ k. k < n) }
-{
-    if n == 64 {
-        Set {
-            word: 0xffff_ffff_ffff_ffff,
+    // The events below n.
+    pub fn full(n: usize) -> Set
+        requires { n ≤ 64 }
+        ensures { Is result (λ k. k < n) }
+    {
+        if n == 64 {
+            Set { word: u64::MAX }
+        } else {
+            Set {
+                word: (1u64 << n) - 1,
+            }
         }
-    } else {
+    }
+
+    // The set of k alone.
+    pub fn one(k: usize) -> Set
+        requires { k < 64 }
+        ensures { Is result (λ j. j ≡ k) }
+    {
+        Set { word: 1u64 << k }
+    }
+
+    // Whether k is a member.
+    pub fn has(self, k: usize) -> bool
+        requires { k < 64 }
+        ensures { Decides result (In self k) }
+    {
+        (self.word >> k) & 1 == 1
+    }
+
+    // Whether there is a member.
+    pub fn any(self) -> bool
+        ensures { Decides result (Member self) }
+    {
+        self.word != 0
+    }
+
+    // Whether the two have a member in common.
+    pub fn meets(self, other: Set) -> bool
+        ensures { Decides result (Meet self other) }
+    {
+        self.word & other.word != 0
+    }
+
+    // The members but k, which is one of them.
+    pub fn without(self, k: usize) -> Set
+        requires { In self k }
+        ensures { Is result (λ j. In self j × (j ≡ k → ⊥)) }
+    {
         Set {
-            word: (1u64 << n) - 1,
+            word: self.word ^ (1u64 << k),
+        }
+    }
+
+    // How many members there are.
+    pub fn size(self) -> u32
+        ensures { Counted 64 (In self) result }
+    {
+        self.word.count_ones()
+    }
+
+    // The least member.
+    pub fn first(self) -> Option<usize>
+        ensures { Found 64 (In self) result }
+    {
+        if self.word == 0 {
+            None
+        } else {
+            Some(self.word.trailing_zeros() as usize)
+        }
+    }
+
+    // The greatest member.
+    pub fn last(self) -> Option<usize>
+        ensures { MatchOption result (Member self → ⊥) (Greatest self) }
+    {
+        if self.word == 0 {
+            None
+        } else {
+            Some((63 ^ self.word.leading_zeros()) as usize)
         }
     }
 }
 
-// The set of k alone.
-pub fn one(k: usize) -> Set
-    requires { k < 64 }
-    ensures { Is result (λ j. j ≡ k) }
-{
-    Set { word: 1u64 << k }
-}
-
-// Whether k is a member.
-pub fn has(s: Set, k: usize) -> bool
-    requires { k < 64 }
-    ensures { Decides result (In s k) }
-{
-    (s.word >> k) & 1 == 1
-}
-
-// Whether there is a member.
-pub fn any(s: Set) -> bool
-    ensures { Decides result (Member s) }
-{
-    s.word != 0
-}
-
-// Whether the two have a member in common.
-pub fn meets(x: Set, y: Set) -> bool
-    ensures { Decides result (Meet x y) }
-{
-    x.word & y.word != 0
-}
-
 // The members of either.
-pub fn union(x: Set, y: Set) -> Set
-    ensures { Is result (λ k. In x k ⊎ In y k) }
-{
-    Set {
-        word: x.word | y.word,
+impl BitOr for Set {
+    type Output = Set;
+
+    ghost bitor_gives = { λ x y r. Is r (λ k. In x k ⊎ In y k) };
+
+    fn bitor(self, other: Set) -> Set {
+        Set {
+            word: self.word | other.word,
+        }
     }
 }
 
 // The members of both.
-pub fn common(x: Set, y: Set) -> Set
-    ensures { Is result (λ k. In x k × In y k) }
-{
-    Set {
-        word: x.word & y.word,
+impl BitAnd for Set {
+    type Output = Set;
+
+    ghost bitand_gives = { λ x y r. Is r (λ k. In x k × In y k) };
+
+    fn bitand(self, other: Set) -> Set {
+        Set {
+            word: self.word & other.word,
+        }
     }
 }
 
-// The members of x that y does not have.
-pub fn minus(x: Set, y: Set) -> Set
-    ensures { Is result (λ k. In x k × (In y k → ⊥)) }
-{
-    Set {
-        word: x.word ^ (x.word & y.word),
+// The members of the first that the second does not have.
+impl Sub for Set {
+    type Output = Set;
+
+    ghost sub_gives = { λ x y r. Is r (λ k. In x k × (In y k → ⊥)) };
+
+    fn sub(self, other: Set) -> Set {
+        Set {
+            word: self.word ^ (self.word & other.word),
+        }
     }
 }
 
-// The members but k, which is one of them.
-pub fn without(s: Set, k: usize) -> Set
-    requires { In s k }
-    ensures { Is result (λ j. In s j × (j ≡ k → ⊥)) }
-{
-    Set {
-        word: s.word ^ (1u64 << k),
+// The members of a set, from the least on.
+#[derive(Clone, Copy)]
+pub struct Ascending {
+    pub rest: Set,
+}
+
+impl Iterator for Ascending {
+    type Item = usize;
+
+    ghost next_gives = { λ s r t. Takes s.rest r t.rest };
+
+    ghost remaining = { λ s. at_most (s.rest.word % 2 ^ 64) };
+
+    fn next(&mut self) -> Option<usize> {
+        let k = self.rest.first()?;
+        self.rest = self.rest.without(k);
+        Some(k)
     }
 }
 
-// How many members there are.
-pub fn size(s: Set) -> u32
-    ensures { Counted 64 (In s) result }
-{
-    u64::count_ones(s.word)
-}
+impl IntoIterator for Set {
+    type Item = usize;
 
-// The least member, or 64 where there is none.
-pub fn first(s: Set) -> usize
-    ensures { Hit 64 (In s) result }
-{
-    u64::trailing_zeros(s.word) as usize
-}
+    type IntoIter = Ascending;
 
-// The greatest member of a set that has one.
-pub fn last(s: Set) -> usize
-    requires { Member s }
-    ensures { Greatest s result }
-{
-    (63 ^ u64::leading_zeros(s.word)) as usize
+    ghost into_iter_gives = { λ s t. t.rest ≡ s };
+
+    fn into_iter(self) -> Ascending {
+        Ascending { rest: self }
+    }
 }
 
 // Row a: the events to which a has a step.
@@ -139,7 +193,7 @@ pub fn linked(t: &[u64], a: usize, b: usize) -> bool
     requires { HasRow t.now a × (b < 64) }
     ensures { Decides result (rel t.now a b) }
 {
-    has(row(t, a), b)
+    row(t, a).has(b)
 }
 
 // Adds a step from a to each member of s.
@@ -155,7 +209,7 @@ pub fn link(t: &mut [u64], a: usize, b: usize)
     requires { HasRow t.old a × (b < 64) }
     ensures { Adds t.old t.new (λ x y. (x ≡ a) × (y ≡ b)) }
 {
-    add(t, a, one(b));
+    add(t, a, Set::one(b));
 }
 
 // Adds the steps of the first n rows of s.
@@ -163,10 +217,8 @@ pub fn join(t: &mut [u64], s: &[u64], n: usize)
     requires { HasRows t.old n × HasRows s.now n }
     ensures { Adds t.old t.new (λ x y. (x < n) × rel s.now x y) }
 {
-    let mut a = 0;
-    while a < n {
+    for a in 0..n {
         add(t, a, row(s, a));
-        a += 1;
     }
 }
 
@@ -175,11 +227,8 @@ pub fn spread(t: &mut [u64], x: Set, y: Set)
     requires { HasRows t.old 64 }
     ensures { Adds t.old t.new (λ a b. In x a × In y b) }
 {
-    let mut from = x;
-    while any(from) {
-        let a = first(from);
+    for a in x {
         add(t, a, y);
-        from = without(from, a);
     }
 }
 
@@ -188,9 +237,5 @@ pub fn copy(t: &mut [u64], s: &[u64], n: usize)
     requires { HasRows t.old n × HasRows s.now n }
     ensures { t.new ≡ take n s.now ++ drop n t.old }
 {
-    let mut a = 0;
-    while a < n {
-        t[a] = s[a];
-        a += 1;
-    }
+    t[..n].copy_from_slice(&s[..n]);
 }

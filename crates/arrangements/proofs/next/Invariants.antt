@@ -3,6 +3,3 @@ use Rattle.arrangements.proofs.next.Given as goal
 
 abbrev pub invariant-loop-k : goal.invariant-loop-k
 invariant-loop-k l = Rolled l.initial.l l.l l.k
-
-abbrev pub decreases-loop-k : goal.decreases-loop-k
-decreases-loop-k l = l.k

@@ -1,34 +1,23 @@
-use Rattle.rows.proofs.Members.{in_low, first_in, taken_less}
+use Rattle.rows.proofs.Members.{in_low}
 use Rattle.rows.proofs.Filters.{filter_begin, filter_more, filter_skip, filter_done}
 use Rattle.cycles.proofs.Reaches.{meet_into, into_meet}
-use Rattle.cycles.proofs.back.Goals.{then-meets, else-meets}
 use Rattle.cycles.proofs.back.Goals as goal
 
-pub loop-w-init : goal.loop-w-init
-loop-w-init c = filter_begin _ _ _ c.none-r.ensures
-
-pub row-requires : goal.row-requires
-row-requires c = let m = first_in _ (c.any.ensures.holds c.loop-w-test.true) _ c.first-a.ensures in
-    c.requires _ (c.loop-w.invariant.part _ m)
+pub loop-a-init : goal.loop-a-init
+loop-a-init c = rw c.into_iter-a-iterator.ensures.into_iter_gives (filter_begin _ _ _ c.none-r.ensures)
 
 pub one-requires : goal.one-requires
-one-requires c = in_low _ _ (first_in _ (c.any.ensures.holds c.loop-w-test.true) _ c.first-a.ensures)
+one-requires c = in_low _ _ c.in-Some.ensures.steps.0.0
 
-pub without-rest-requires : goal.without-rest-requires
-without-rest-requires c = first_in _ (c.any.ensures.holds c.loop-w-test.true) _ c.first-a.ensures
+pub loop-a-preserved-then-meets : goal.loop-a-preserved-then-meets
+loop-a-preserved-then-meets c =
+    let s = c.in-Some.ensures.steps in
+    filter_more _ _ _ _ c.loop-a.invariant _ s.0.0 _ s.1 (meet_into _ _ _ _ c.row.ensures (c.meets.ensures.holds c.if-meets.true)) _ _ c.one.ensures c.bitor-r.ensures
 
-pub loop-w-smaller : goal.loop-w-smaller
-loop-w-smaller c = taken_less _ (c.any.ensures.holds c.loop-w-test.true) _ c.first-a.ensures _ c.without-rest.ensures
-
-pub loop-w-preserved : goal.loop-w-preserved
-loop-w-preserved c = let p = c.loop-w.invariant in
-    let m = first_in _ (c.any.ensures.holds c.loop-w-test.true) _ c.first-a.ensures in
-    let i = c.row.ensures in
-    let d = c.meets.ensures in
-    elim c.if-meets.branch [
-      | then-meets w ↦ rw w.r-is (filter_more _ _ _ _ p _ m _ c.without-rest.ensures (meet_into _ _ _ _ i (d.holds w.if-meets.true)) _ _ w.one.ensures w.union-r.ensures)
-      | else-meets w ↦ rw w.r-is (filter_skip _ _ _ _ p _ m _ c.without-rest.ensures (λ q. d.fails w.if-meets.false (into_meet _ _ _ _ i q)))
-    ]
+pub loop-a-preserved : goal.loop-a-preserved
+loop-a-preserved c =
+    let s = c.in-Some.ensures.steps in
+    filter_skip _ _ _ _ c.loop-a.invariant _ s.0.0 _ s.1 (λ q. c.meets.ensures.fails c.if-meets.false (into_meet _ _ _ _ c.row.ensures q))
 
 pub returns : goal.returns
-returns c = filter_done _ _ _ _ c.loop-w.invariant (c.any.ensures.fails c.loop-w-test.false)
+returns c = filter_done _ _ _ _ c.loop-a.invariant c.in-None.ensures.steps

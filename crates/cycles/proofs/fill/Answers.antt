@@ -1,12 +1,6 @@
 use native.Mathlib.Omega.{arith}
-use Rattle.order.proofs.Walks.{within_below}
-use Rattle.cycles.proofs.Fills.{start_low}
 use Rattle.cycles.proofs.Layers.{levels_blank}
 use Rattle.cycles.proofs.fill.Goals as goal
-
-pub levels-requires : goal.levels-requires
-levels-requires c = let p = c.requires in
-    (p.0, p.1, start_low _ _ (within_below _ _) _ _ p.4, let h = p.0 in let l = p.2 in omega arith)
 
 pub closing-good-requires : goal.closing-good-requires
 closing-good-requires c = let p = c.requires in

@@ -1,9 +1,5 @@
-use Rattle.rows.proofs.Members.{value}
 use Rattle.cycles.proofs.Layers.{Going}
 use Rattle.cycles.proofs.onward.Given as goal
 
-abbrev pub invariant-loop-from : goal.invariant-loop-from
-invariant-loop-from l = Going l.t l.initial.from l.from l.r
-
-abbrev pub decreases-loop-from : goal.decreases-loop-from
-decreases-loop-from l = value l.from
+abbrev pub invariant-loop-a : goal.invariant-loop-a
+invariant-loop-a l = Going l.t l.fn.w l.a-iterator.rest l.r

@@ -1,10 +1,6 @@
-use Prim.Native.Nat.{◌-◌}
 use Rattle.cycles.specs.Search.{among}
 use Rattle.cycles.proofs.Layers.{Nearing}
 use Rattle.cycles.proofs.steps.Given as goal
 
 abbrev pub invariant-loop-k : goal.invariant-loop-k
-invariant-loop-k l = Nearing (among l.t l.all) l.all l.s l.s l.limit l.seen l.front l.k
-
-abbrev pub decreases-loop-k : goal.decreases-loop-k
-decreases-loop-k l = l.limit - l.k
+invariant-loop-k l = Nearing (among l.t l.all) l.all l.s l.s l.seen l.front l.k

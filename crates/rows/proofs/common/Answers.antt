@@ -1,5 +1,0 @@
-use Rattle.rows.proofs.Members.{is_common}
-use Rattle.rows.proofs.common.Goals as goal
-
-pub returns : goal.returns
-returns c = is_common _ _

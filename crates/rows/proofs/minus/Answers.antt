@@ -1,5 +1,0 @@
-use Rattle.rows.proofs.Members.{is_minus}
-use Rattle.rows.proofs.minus.Goals as goal
-
-pub returns : goal.returns
-returns c = is_minus _ _

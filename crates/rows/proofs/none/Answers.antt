@@ -1,5 +1,0 @@
-use Rattle.rows.proofs.Members.{is_none}
-use Rattle.rows.proofs.none.Goals as goal
-
-pub returns : goal.returns
-returns c = is_none

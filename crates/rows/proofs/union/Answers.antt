@@ -1,5 +1,0 @@
-use Rattle.rows.proofs.Members.{is_union}
-use Rattle.rows.proofs.union.Goals as goal
-
-pub returns : goal.returns
-returns c = is_union _ _
