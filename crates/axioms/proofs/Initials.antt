@@ -4,11 +4,12 @@ use mathlib.Core.Path.{◌≡◌, refl, sym, ap, ◌∙◌}
 use mathlib.Core.Logic.{◌⊎◌, inl, inr, ⊎_elim}
 use mathlib.Core.List.{List, [], ◌∷◌}
 use native.Mathlib.Omega.{arith}
-use Rattle.order.specs.Least.{Hit}
+use Rattle.order.specs.Least.{None, Least}
 use Rattle.order.proofs.Numbers.{least_unique}
 use Rattle.rows.specs.Members.{In, Is, Member}
 use Rattle.rows.specs.Table.{rel}
 use Rattle.rows.specs.declared.Set.{Set}
+use Rattle.rows.proofs.Members.{in_low}
 use Rattle.record.specs.Execution.{Execution}
 use Rattle.record.specs.Words.{InitialFor}
 use Rattle.record.specs.declared.Event.{Event}
@@ -16,31 +17,11 @@ use Rattle.facts.specs.declared.Classes.{Classes}
 use Rattle.model.specs.Model.{Reads, Writes, Source, Sourced}
 use Rattle.model.specs.Rules.{Unsourced, Initially, WrongInitial}
 use Rattle.axioms.specs.Scene.{Scene}
-use Rattle.axioms.specs.Faults.{WrongFrom, Coded, Precedes}
+use Rattle.axioms.specs.Faults.{WrongFrom, Coded, code, Precedes}
+use Rattle.axioms.specs.declared.initial.Start.{Start}
+use Rattle.axioms.specs.declared.initial.Start.TheVariants.{Absent, Other, Same}
 use Rattle.facts.proofs.Placing.{place_sym}
 use Rattle.axioms.proofs.Sorts.{reads_not, writes_is, reads_is}
-
--- the search for event r's place, read as x, gave entry i of m
-module _ (z : Execution) (r : ℕ) (x : Event) (ex : x ≡ z.events.item r) (m : ℕ) (em : m ≡ z.initials.size) (i : ℕ)
-    (h : Hit m (λ j. InitialFor x (z.initials.item j)) i) where
-  pub coded_none : i ≡ m → Coded z r 0
-  coded_none e = inl (refl, λ k l q. h.none k (omega arith) (rw ex q))
-
-  module _ (g : i ≡ m → ⊥) (v : ℕ) (ev : v ≡ (z.initials.item i).value) where
-    below : i < m
-    below = let n = h.most in omega arith
-
-    initial : Initially z (z.events.item r) v
-    initial = let b = below in (i, omega arith, (rw ex at (h.hit b), (λ k l q. h.none k l (rw ex q)), sym ev))
-
-    value : x.value ≡ (z.events.item r).value
-    value = ap (λ (y : Event). y.value) ex
-
-    pub coded_other : (v ≡ x.value → ⊥) → Coded z r 1
-    coded_other d = inr (inl (refl, (v, initial, λ e. d (e ∙ sym value))))
-
-    pub coded_same : v ≡ x.value → Coded z r 2
-    coded_same e = let f : v ≡ (z.events.item r).value = e ∙ value in let k = initial in inr (inr (refl, rw f at k))
 
 -- a place has one initial value
 pub initially_unique : (z : Execution) (x : Event) (v w : ℕ) → Initially z x v → Initially z x w → v ≡ w
@@ -92,29 +73,35 @@ module _ (z : Execution) (p r : ℕ) where
   wrong_unsourced (a ∷ x ∷ [], h) = h.0
   wrong_unsourced (a ∷ x ∷ y ∷ w, h) = absurd h
 
-  pub wrong_code : Unsourced z p r → (code : ℕ) → Coded z r code → code < 2 → WrongFrom z p r
+  pub wrong_code : Unsourced z p r → (k : Start) → Coded z r (code k) → (k ≡ Same → ⊥) → WrongFrom z p r
   unfolding WrongInitial
-  wrong_code u code (inl q) l = (code ∷ [], (u, inl q))
-  wrong_code u code (inr (inl q)) l = (code ∷ [], (u, inr q))
-  wrong_code u code (inr (inr q)) l = let e = q.0 in absurd (omega arith)
+  wrong_code u Absent (inl q) g = (0 ∷ [], (u, inl q))
+  wrong_code u Absent (inr (inl q)) g = (0 ∷ [], (u, inr q))
+  wrong_code u Absent (inr (inr q)) g = let e = q.0 in absurd (omega arith)
+  wrong_code u Other (inl q) g = (1 ∷ [], (u, inl q))
+  wrong_code u Other (inr (inl q)) g = (1 ∷ [], (u, inr q))
+  wrong_code u Other (inr (inr q)) g = let e = q.0 in absurd (omega arith)
+  wrong_code u Same d g = absurd (g refl)
 
   pub wrong_before : Unsourced z p r → (x : ℕ) → Precedes z p r x → WrongFrom z p r
   unfolding WrongInitial
   wrong_before u x o = (2 ∷ x ∷ [], (u, refl, o.0, o.1))
 
   -- the initial value is r's, and no write stands before r
-  coded_right : (code : ℕ) → Coded z r code → (code < 2 → ⊥) → Initially z (z.events.item r) (z.events.item r).value
-  coded_right code (inl q) g = let e = q.0 in absurd (omega arith)
-  coded_right code (inr (inl q)) g = let e = q.0 in absurd (omega arith)
-  coded_right code (inr (inr q)) g = q.1
+  coded_right : (k : Start) → Coded z r (code k) → k ≡ Same → Initially z (z.events.item r) (z.events.item r).value
+  coded_right Absent d e = cc
+  coded_right Other d e = cc
+  coded_right Same (inl q) e = let e = q.0 in absurd (omega arith)
+  coded_right Same (inr (inl q)) e = let e = q.0 in absurd (omega arith)
+  coded_right Same (inr (inr q)) e = q.1
 
-  pub wrong_not : (code : ℕ) → Coded z r code → (code < 2 → ⊥) → ((x : ℕ) → Precedes z p r x → ⊥) → WrongFrom z p r → ⊥
+  pub wrong_not : (k : Start) → Coded z r (code k) → k ≡ Same → ((x : ℕ) → Precedes z p r x → ⊥) → WrongFrom z p r → ⊥
   unfolding WrongInitial
-  wrong_not code d g f ([], h) = h
-  wrong_not code d g f (a ∷ [], (u, inl q)) = let k = coded_right code d g in q.1 k.0 k.1 k.2.0
-  wrong_not code d g f (a ∷ [], (u, inr (e, (v, k, n)))) = n (initially_unique z (z.events.item r) _ _ k (coded_right code d g))
-  wrong_not code d g f (a ∷ x ∷ [], (u, e, w, o)) = f x (w, o)
-  wrong_not code d g f (a ∷ x ∷ y ∷ w, h) = h
+  wrong_not k d g f ([], h) = h
+  wrong_not k d g f (a ∷ [], (u, inl q)) = let i = coded_right k d g in q.1 i.0 i.1 i.2.0
+  wrong_not k d g f (a ∷ [], (u, inr (e, (v, i, n)))) = n (initially_unique z (z.events.item r) _ _ i (coded_right k d g))
+  wrong_not k d g f (a ∷ x ∷ [], (u, e, w, o)) = f x (w, o)
+  wrong_not k d g f (a ∷ x ∷ y ∷ w, h) = h
 
 -- ---- the search
 
@@ -142,33 +129,36 @@ module _ (z : Execution) (t q : List ℕ) (c : Classes) (seen : Set) where
       kinds : Is reads (λ e. (e < z.events.size) × Reads (z.events.item e))
       kinds = reads_is z c scene.classes reads ir
 
-  -- r is taken, whose code is known, and the writes before it
-  module _ (from : Set) (u : Unread z t q c seen from) (r : ℕ) (m : In from r) (code : ℕ) (d : Coded z r code) (x : Set)
-      (before : (p : ℕ) → Scene z p t q c seen → In seen r → Reads (z.events.item r) → Is x (Precedes z p r)) where
-    here : (p : ℕ) → Scene z p t q c seen → Is x (Precedes z p r)
-    here p scene = before p scene (u.sees r m) (u.reads r m)
+  -- r is taken, whose code is known
+  module _ (from : Set) (u : Unread z t q c seen from) (r : ℕ) (f : Least (In from) r) (k : Start) (d : Coded z r (code k)) where
+    un : (p : ℕ) → Scene z p t q c seen → Unsourced z p r
+    un p scene = (scene.view.processor, scene.view.sees.says r (u.sees r f.0), u.reads r f.0, u.free r f.0)
 
-    pub unread_found : Hit 64 (In from) r → (code < 2) ⊎ Member x → (p : ℕ) → Scene z p t q c seen → Hit 64 (WrongFrom z p) r
-    unread_found f w p scene = record { most = f.most; none = λ k l h. f.none k l (u.all p k scene h); hit = λ l. wrong w }
-      where
-        un : Unsourced z p r
-        un = (scene.view.processor, scene.view.sees.says r (u.sees r m), u.reads r m, u.free r m)
+    least : (p : ℕ) → Scene z p t q c seen → WrongFrom z p r → (r < 64) × Least (WrongFrom z p) r
+    least p scene w = (in_low from r f.0, (w, (λ k l h. f.1 k l (u.all p k scene h))))
 
-        wrong : (code < 2) ⊎ Member x → WrongFrom z p r
-        wrong (inl l) = wrong_code z p r un code d l
-        wrong (inr (k, n)) = wrong_before z p r un k ((here p scene).says k n)
+    pub unread_coded : (k ≡ Same → ⊥) → (p : ℕ) → Scene z p t q c seen → (r < 64) × Least (WrongFrom z p) r
+    unread_coded g p scene = least p scene (wrong_code z p r (un p scene) k d g)
 
-    pub unread_more : ((code < 2) ⊎ Member x → ⊥) → (rest : Set) → Is rest (λ j. In from j × (j ≡ r → ⊥)) → Unread z t q c seen rest
-    unread_more g rest k = record {
-      low = λ a n. u.low a (k.says a n).0;
-      reads = λ a n. u.reads a (k.says a n).0;
-      sees = λ a n. u.sees a (k.says a n).0;
-      free = λ a n. u.free a (k.says a n).0;
-      all = λ p a scene h. k.has a (u.all p a scene h, λ e. right p scene (rw e at h));
-    }
-      where
-        right : (p : ℕ) → Scene z p t q c seen → WrongFrom z p r → ⊥
-        right p scene = wrong_not z p r code d (λ l. g (inl l)) (λ y o. g (inr (y, (here p scene).has y o)))
+    -- the writes before it
+    module _ (x : Set) (before : (p : ℕ) → Scene z p t q c seen → In seen r → Reads (z.events.item r) → Is x (Precedes z p r)) where
+      here : (p : ℕ) → Scene z p t q c seen → Is x (Precedes z p r)
+      here p scene = before p scene (u.sees r f.0) (u.reads r f.0)
 
-  pub unread_done : (from : Set) → Unread z t q c seen from → (Member from → ⊥) → (p : ℕ) → Scene z p t q c seen → Hit 64 (WrongFrom z p) 64
-  unread_done from u g p scene = record { most = omega arith; none = λ a l h. g (a, u.all p a scene h); hit = λ l. absurd (omega arith) }
+      pub unread_before : Member x → (p : ℕ) → Scene z p t q c seen → (r < 64) × Least (WrongFrom z p) r
+      unread_before (y, n) p scene = least p scene (wrong_before z p r (un p scene) y ((here p scene).says y n))
+
+      pub unread_more : k ≡ Same → (Member x → ⊥) → (rest : Set) → Is rest (λ j. In from j × (j ≡ r → ⊥)) → Unread z t q c seen rest
+      unread_more e g rest i = record {
+        low = λ a n. u.low a (i.says a n).0;
+        reads = λ a n. u.reads a (i.says a n).0;
+        sees = λ a n. u.sees a (i.says a n).0;
+        free = λ a n. u.free a (i.says a n).0;
+        all = λ p a scene h. i.has a (u.all p a scene h, λ b. right p scene (rw b at h));
+      }
+        where
+          right : (p : ℕ) → Scene z p t q c seen → WrongFrom z p r → ⊥
+          right p scene = wrong_not z p r k d e (λ y o. g (y, (here p scene).has y o))
+
+  pub unread_done : (from : Set) → Unread z t q c seen from → (Member from → ⊥) → (p : ℕ) → Scene z p t q c seen → None 64 (WrongFrom z p)
+  unread_done from u g p scene a l h = g (a, u.all p a scene h)

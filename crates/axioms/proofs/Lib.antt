@@ -2,6 +2,5 @@ pub mod Initials
 pub mod Overwrites
 pub mod Pairings
 pub mod Placings
-pub mod Seeking
 pub mod Sorts
 pub mod Tears

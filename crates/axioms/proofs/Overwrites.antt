@@ -1,12 +1,14 @@
 -- Rule 25: the writes that stand between a read and its source.
-use Prim.Native.Nat.{ℕ, ◌<◌, ◌≤◌}
+use Rattle.std.specs.Prelude.{Option, Some as Just, None as Nothing}
+use Rattle.std.specs.Option.{is_some}
+use Prim.Native.Nat.{ℕ, ◌<◌}
 use mathlib.Core.Path.{◌≡◌, ap}
-use mathlib.Core.Bool.{Bool}
+use mathlib.Core.Bool.{Bool, true, false}
 use mathlib.Core.Logic.{◌⊎◌, inl, inr, ⊎_elim}
 use mathlib.Core.List.{List}
 use native.Mathlib.Omega.{arith}
 use Rattle.order.specs.Decides.{Decides}
-use Rattle.order.specs.Least.{Hit}
+use Rattle.order.specs.Least.{Found}
 use Rattle.order.specs.Rule.{Any}
 use Rattle.order.proofs.Tests.{by_as}
 use Rattle.rows.specs.Members.{In, Is, Member}
@@ -80,15 +82,22 @@ module _ (z : Execution) (p : ℕ) (t q : List ℕ) (c : Classes) (seen : Set) (
       unfolding Overwritten
       source_in (r, (x, (hp, o, hs, d, k, after, before))) = i.has w (write_in w hs.0.0 (s.paired w r o).0, s.view.sees.has w hs.0)
 
-      module _ (m : In all w) (r : ℕ) (f : In seen w → Hit 64 (λ e. Any 1 (Overwritten z p w e)) r) where
-        pub source_found : r < 64 → Any 2 (Overwritten z p w)
-        source_found l = (r, (f (i.says w m).1).hit l)
+      -- what the search for its reads gave
+      module _ (m : In all w) (r : Option ℕ) (f : In seen w → Found 64 (λ e. Any 1 (Overwritten z p w e)) r) where
+        pub source_found : is_some r ≡ true → Any 2 (Overwritten z p w)
+        source_found = go r f
+          where
+            go : (r : Option ℕ) → (In seen w → Found 64 (λ e. Any 1 (Overwritten z p w e)) r) → is_some r ≡ true → Any 2 (Overwritten z p w)
+            go Nothing f e = cc
+            go (Just r) f e = (r, (f (i.says w m).1).1.0)
 
-        pub source_not : 64 ≤ r → Any 2 (Overwritten z p w) → ⊥
+        pub source_not : is_some r ≡ false → Any 2 (Overwritten z p w) → ⊥
         unfolding Overwritten
-        source_not l (e, (x, q)) =
-            let h = in_low seen e (s.view.sees.has e q.2.1) in
-            (f (i.says w m).1).none e (omega arith) (x, q)
+        source_not = go r f
+          where
+            go : (r : Option ℕ) → (In seen w → Found 64 (λ e. Any 1 (Overwritten z p w e)) r) → is_some r ≡ false → Any 2 (Overwritten z p w) → ⊥
+            go Nothing f e (k, (x, q)) = f (i.says w m).1 k (in_low seen k (s.view.sees.has k q.2.1)) (x, q)
+            go (Just r) f e q = cc
 
   -- the reads from w
   module _ (u : List ℕ) (v : Sources z u) (w : ℕ) (row all : Set) (ir : Is row (rel u w)) (ia : Is all (λ k. In row k × In seen k)) (r : ℕ) where

@@ -2,11 +2,11 @@
 use Prim.Native.Nat.{ℕ, ◌<◌}
 use mathlib.Core.Path.{◌≡◌, subst}
 use mathlib.Core.Logic.{◌⊎◌}
-use mathlib.Core.Bool.{Bool, ◌&&◌}
+use mathlib.Core.Bool.{Bool, true, false}
 use mathlib.Core.List.{List}
 use lib.Dec.{eqb}
 use Rattle.order.specs.Decides.{Decides}
-use Rattle.order.proofs.Tests.{by_and, by_eq, by_as}
+use Rattle.order.proofs.Tests.{by_no, by_eq, by_as}
 use Rattle.rows.specs.Members.{In, Is}
 use Rattle.rows.specs.Table.{rel}
 use Rattle.rows.specs.declared.Set.{Set}
@@ -33,19 +33,32 @@ module _ (s : List ℕ) (r : Right s) (p : Part) (q : Stands s 8 p) (i : ℕ) (h
   pub to_low : (w : ℕ) → w ≡ ((execution_of s).sources.item i).to → w < (execution_of s).events.size
   to_low w e = rw e ((formed s r).sources.each i pair_within).1
 
--- events w and r, read as x and y
+-- v is the first test, or the second where the first holds
+module _ {P Q : Type 0} (v a : Bool) (d : Decides a P) where
+  pub by_then : a ≡ true → (b : Bool) → v ≡ b → Decides b Q → Decides v (P × Q)
+  by_then h b e f = rw e (by_as b (λ q. (d.holds h, q)) (λ q. q.1) f)
+
+  pub by_else : a ≡ false → v ≡ a → Decides v (P × Q)
+  by_else h e = rw (e, h) (by_no (λ q. d.fails h q.0))
+
+-- events w and r: a write and a read, and of one place
 module _ (z : Execution) (q : List ℕ) (places : Placed z q) (c : Classes) (classes : Classed z c) (writes reads : Set)
     (iw : Is writes (λ e. In c.stores e ⊎ In c.puts e)) (ir : Is reads (λ e. In c.loads e ⊎ In c.gets e)) (w r : ℕ)
-    (lw : w < z.events.size) (lr : r < z.events.size) (x y : Event) (ex : x ≡ z.events.item w) (ey : y ≡ z.events.item r) where
-  pub paired_test : (a b d : Bool) → Decides a (In writes w) → Decides b (In reads r) → Decides d (rel q w r)
-      → Decides (a && (b && (d && eqb x.value y.value))) (WriteAndRead (z.events.item w) (z.events.item r))
-  paired_test a b d da db dd =
-      let u = writes_is z c classes writes iw in
-      let v = reads_is z c classes reads ir in
-      rw (ex, ey)
-      (by_and _ _ (by_as _ (λ h. (u.says w h).1) (λ h. u.has w (lw, h)) da)
-      (by_and _ _ (by_as _ (λ h. (v.says r h).1) (λ h. v.has r (lr, h)) db)
-      (by_and _ _ (by_as _ (λ h. ((places.pairs w r).0 h).2) (λ h. (places.pairs w r).1 (lw, lr, h)) dd) (by_eq _ _))))
+    (lw : w < z.events.size) (lr : r < z.events.size) (b : Bool) (d : Decides b ((In writes w × In reads r) × rel q w r)) where
+  pub paired_then : b ≡ true → (x y : Event) → x ≡ z.events.item w → y ≡ z.events.item r
+      → Decides (eqb x.value y.value) (WriteAndRead (z.events.item w) (z.events.item r))
+  paired_then h x y ex ey =
+      let ((kw, kr), o) = d.holds h in
+      rw (ex, ey) (by_as _
+      (λ e. (((writes_is z c classes writes iw).says w kw).1, (((reads_is z c classes reads ir).says r kr).1, (((places.pairs w r).0 o).2, e))))
+      (λ p. p.1.1.1)
+      (by_eq _ _))
+
+  pub paired_else : b ≡ false → Decides b (WriteAndRead (z.events.item w) (z.events.item r))
+  paired_else h = rw h (by_no (λ p. d.fails h (
+    ((writes_is z c classes writes iw).has w (lw, p.0), (reads_is z c classes reads ir).has r (lr, p.1.0)),
+    (places.pairs w r).1 (lw, lr, p.1.1.0),
+  )))
 
 -- pair i, whose numbers were read as w and r
 module _ (z : Execution) (i w r : ℕ) (ew : w ≡ (z.sources.item i).from) (er : r ≡ (z.sources.item i).to) where

@@ -1,15 +1,21 @@
 -- The numbers of a list, counted into two sets: those that stand in it, and those that stand in it twice.
+use Rattle.std.specs.Prelude.{Option, Some as Just, None as Nothing}
 use Prim.Native.Nat.{ℕ, ◌+◌, ◌<◌, ◌≤◌}
 use mathlib.Core.Path.{◌≡◌, sym, ap, ◌∙◌}
 use mathlib.Core.Logic.{◌⊎◌, inl, inr, ⊎_elim}
 use native.Mathlib.Omega.{arith}
-use Rattle.order.specs.Least.{Some, Hit}
+use Rattle.order.specs.Least.{Some, Found}
 use Rattle.order.proofs.Numbers.{last_or}
-use Rattle.order.proofs.Searches.{hit_as}
+use Rattle.order.proofs.Searches.{found_as, none_as}
 use Rattle.rows.specs.Members.{In, Is}
 use Rattle.rows.specs.declared.Set.{Set}
 use Rattle.record.specs.Execution.{Items}
 use Rattle.model.specs.Rules.{Misplaced}
+
+-- what is found under another name for its property
+pub found_by : (n : ℕ) (P Q : ℕ → Type 0) → ((k : ℕ) → P k → Q k) → ((k : ℕ) → Q k → P k) → (r : Option ℕ) → Found n P r → Found n Q r
+found_by n P Q f g Nothing h = none_as n P Q f g h
+found_by n P Q f g (Just r) h = found_as n P Q f g r h
 
 -- the first i numbers are counted
 pub record Placing (l : Items ℕ) (i : ℕ) (x y : Set) : Type 0 where
@@ -18,13 +24,6 @@ pub record Placing (l : Items ℕ) (i : ℕ) (x y : Set) : Type 0 where
   pub twice : Is y (λ e. Some i (λ j. Some j (λ k. (l.item k ≡ e) × (l.item j ≡ e))))
 
 module _ (l : Items ℕ) where
-  pub placing_begin : (x y : Set) → Is x (λ e. ⊥) → Is y (λ e. ⊥) → Placing l 0 x y
-  placing_begin x y a b = record {
-    upto = omega arith;
-    once = record { says = λ e m. absurd (a.says e m); has = λ e q. let h = q.1 in absurd (omega arith) };
-    twice = record { says = λ e m. absurd (b.says e m); has = λ e q. let h = q.1 in absurd (omega arith) };
-  }
-
   module _ (i : ℕ) (x y : Set) (p : Placing l i x y) where
     pub placing_more : i < l.size → (v : ℕ) → v ≡ l.item i → (here both y' x' : Set) → Is here (λ e. e ≡ v) → Is both (λ e. In x e × In here e)
         → Is y' (λ e. In y e ⊎ In both e) → Is x' (λ e. In x e ⊎ In here e) → Placing l (i + 1) x' y'
@@ -56,9 +55,9 @@ module _ (l : Items ℕ) where
         to e q = o.has e (sym q ∙ sym f)
 
     pub placing_done : l.size ≤ i → (due a b c all : Set) → Is a (λ e. In x e × (In due e → ⊥)) → Is b (λ e. In due e × (In x e → ⊥))
-        → Is c (λ e. In a e ⊎ In b e) → Is all (λ e. In y e ⊎ In c e) → (r : ℕ) → Hit 64 (In all) r → Hit 64 (λ e. Misplaced (In due e) l e) r
+        → Is c (λ e. In a e ⊎ In b e) → Is all (λ e. In y e ⊎ In c e) → (r : Option ℕ) → Found 64 (In all) r → Found 64 (λ e. Misplaced (In due e) l e) r
     unfolding Misplaced
-    placing_done h due a b c all ia ib ic is r f = hit_as (In all) _ 64 r says has f
+    placing_done h due a b c all ia ib ic is r f = found_by 64 (In all) _ says has r f
       where
         whole : Placing l l.size x y
         whole = let g = p.upto in let e : i ≡ l.size = omega arith in rw e at p

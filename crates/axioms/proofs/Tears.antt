@@ -5,9 +5,8 @@ use mathlib.Core.Logic.{⊎_elim}
 use mathlib.Core.Bool.{Bool, true, false}
 use mathlib.Core.List.{List}
 use Rattle.order.specs.Decides.{Decides}
-use Rattle.order.specs.Least.{Some, Hit}
+use Rattle.order.specs.Least.{Some}
 use Rattle.order.specs.Rule.{Any}
-use Rattle.order.proofs.Searches.{hit_as}
 use Rattle.order.proofs.Tests.{by_as}
 use Rattle.rows.specs.Members.{In, Is, Member}
 use Rattle.rows.specs.Table.{rel}
@@ -53,22 +52,18 @@ module _ (z : Execution) (l : Items ℕ) (t : List ℕ) (all : Set) (v : Lined z
 
   -- the events of locked instructions; the search for a
   module _ (locked from : Set) (i : Is locked (λ e. Some z.locks.size (λ i. OfLock z i e))) (j : Is from (λ k. In locked k × In all k)) where
-    torn_in : (a : ℕ) → Any 2 (BreaksUp z l a) → In from a
+    pub torn_in : (a : ℕ) → Any 2 (BreaksUp z l a) → In from a
     unfolding BreaksUp Locked
     torn_in a (x, (b, ((k, h, o), same, other, after, before))) =
         let n = (v.within a x after).0 in j.has a (i.has a (k, h, (v.low a n, o)), n)
 
-    pub torn_hit : (r : ℕ) → Hit 64 (λ a. In from a × Any 2 (BreaksUp z l a)) r → Hit 64 (λ a. Any 2 (BreaksUp z l a)) r
-    torn_hit r h = hit_as _ _ 64 r (λ a q. q.1) (λ a q. (torn_in a q, q)) h
-
     pub torn_found : (a : ℕ) (g : Bool) → (Locked z a → In all a → Decides g (Any 2 (BreaksUp z l a)))
-        → In from a → g ≡ true → In from a × Any 2 (BreaksUp z l a)
+        → In from a → g ≡ true → Any 2 (BreaksUp z l a)
     unfolding Locked
-    torn_found a g d m e = let (k, n) = j.says a m in let (x, y, (h, q)) = i.says a k in (m, (d (x, y, q) n).holds e)
+    torn_found a g d m e = let (k, n) = j.says a m in let (x, y, (h, q)) = i.says a k in (d (x, y, q) n).holds e
 
-  pub torn_not : (from : Set) (a : ℕ) (g : Bool) → (Locked z a → In all a → Decides g (Any 2 (BreaksUp z l a)))
-      → g ≡ false → In from a × Any 2 (BreaksUp z l a) → ⊥
-  torn_not from a g d e (m, (x, (b, q))) = (d (broken_locked a x b q) (broken_in a x b q).0).fails e (x, (b, q))
+  pub torn_not : (a : ℕ) (g : Bool) → (Locked z a → In all a → Decides g (Any 2 (BreaksUp z l a))) → g ≡ false → Any 2 (BreaksUp z l a) → ⊥
+  torn_not a g d e (x, (b, q)) = (d (broken_locked a x b q) (broken_in a x b q).0).fails e (x, (b, q))
 
   module _ (m : List ℕ) (n : Mated z m) (a : ℕ) (lock : Locked z a) (ia : In all a) (mates : Set) (im : Is mates (rel m a)) where
     mate_in : (b : ℕ) → In all b → SameInstruction (z.events.item a) (z.events.item b) → In mates b

@@ -11,7 +11,7 @@ use Rattle.rows.specs.Members.{In, Is, Member}
 use Rattle.rows.specs.Table.{HasRows, rel, Adds}
 use Rattle.rows.specs.declared.Set.{Set}
 use Rattle.rows.proofs.Members.{value, dec_in, is_as, subset_less}
-use Rattle.rows.proofs.Table.{adds_none, adds_as}
+use Rattle.rows.proofs.Table.{adds_as}
 use Rattle.record.specs.Execution.{Execution}
 use Rattle.record.specs.Words.{Memory, Register, SamePlace}
 use Rattle.record.specs.declared.Event.{Event}
@@ -67,11 +67,11 @@ module _ (x : Execution) (f : List ℕ) (sorted : Sorted x f) (left : Set) (e : 
 
   pub peers_register : 2 ≤ y.kind → y.processor < 4 → ((k : ℕ) → k < x.events.size → (x.events.item k).kind < 4)
       → (o a b u t r : Set) → Is o (rel f y.processor) → Is a (rel f 6) → Is b (rel f 7) → Is u (λ k. In a k ⊎ In b k)
-      → Is t (λ k. In o k × In u k) → Is r (λ k. In left k × In t k) → Is r (λ k. In left k × Peers x e k)
+      → Is t (λ k. In left k × In o k) → Is r (λ k. In t k × In u k) → Is r (λ k. In left k × Peers x e k)
   peers_register h p low o a b u t r io ia ib iu it ir =
       is_as r _ _
-      (λ k m. let w = it.says k m.1 in (m.0, there k ((sorted.own _ k p).0 (io.says k w.0)).1 (iu.says k w.1)))
-      (λ k m. (m.0, it.has k (back k m.1)))
+      (λ k m. let w = it.says k m.0 in (w.0, there k ((sorted.own _ k p).0 (io.says k w.1)).1 (iu.says k m.1)))
+      (λ k m. let w = back k m.1 in (it.has k (m.0, w.0), w.1))
       ir
     where
       own : Register (x.events.item e)
@@ -120,13 +120,6 @@ pub record Placing (x : Execution) (t u : List ℕ) (left : Set) : Type 0 where
   pub adds : Adds t u (λ a b. (In left a → ⊥) × Alike x a b)
 
 module _ (x : Execution) (t : List ℕ) where
-  pub place_begin : (n : ℕ) → n ≡ x.events.size → (left : Set) → Is left (λ k. k < n) → Placing x t t left
-  place_begin n q left i = record {
-    low = λ a m. let l = i.says a m in omega arith;
-    closed = λ a b m s. let l = s.1 in i.has b (omega arith);
-    adds = adds_none t _ (λ a b s. let l = s.1.0 in s.0 (i.has a (omega arith)));
-  }
-
   module _ (u : List ℕ) (left : Set) (p : Placing x t u left) (e : ℕ) (m : In left e) (like less : Set)
       (i : Is like (λ k. In left k × ((k < x.events.size) × SamePlace (x.events.item e) (x.events.item k))))
       (j : Is less (λ k. In left k × (In like k → ⊥))) where

@@ -17,10 +17,8 @@ pub fn gather(s: &[u8], l: Layout, f: &mut [u64], q: &mut [u64], k: &mut [u64]) 
     requires has_rows { (HasRows f.old 8 × Blank f.old) × ((HasRows q.old 64 × Blank q.old) × (HasRows k.old 17 × Blank k.old)) }
     ensures { Gathered s.now l f.new q.new k.new result }
 {
-    let n = l.events;
-    let locks = l.locks;
-    sort(s, n, f);
-    place(s, n, f, q);
-    enter(s, locks, f, k);
+    sort(s, l.events, f);
+    place(s, l.events, f, q);
+    enter(s, l.locks, f, k);
     classify(f, k)
 }

@@ -9,6 +9,7 @@ pub mod kinds;
 pub mod lists;
 pub mod locks;
 pub mod places;
+pub mod sets;
 pub mod sorts;
 
 // The memory loads, the memory stores, the register reads, the register writes, and the events of locked instructions.

@@ -10,6 +10,5 @@ pub fn number(s: &[u8], list: Part, i: usize) -> usize
     requires { ((n : ℕ) × Listed s.now n list) × (i < list.count) }
     ensures { result ≡ (list_of s.now list).item i }
 {
-    let from = list.at;
-    num1(s, from + i)
+    num1(s, list.at + i)
 }

@@ -7,6 +7,7 @@ ghost use Rattle.record.specs.Says.{execution_of};
 ghost use Rattle.record.specs.Laid.{Stands};
 ghost use Rattle.facts.specs.Facts.{Blank, Sorted, Entered, Mated};
 
+use crate::sets::keep;
 use form::bytes::{num1, num2};
 use record::Part;
 use rows::Set;
@@ -16,16 +17,7 @@ fn indexed(s: &[u8], own: Set, index: usize) -> Set
     requires { Right s.now × ((e : ℕ) → In own e → e < (execution_of s.now).events.size) }
     ensures { Is result (λ e. In own e × (((execution_of s.now).events.item e).index ≡ index)) }
 {
-    let mut from = own;
-    let mut r = rows::none();
-    while rows::any(from) {
-        let e = rows::first(from);
-        if num2(s, 6 + 12 * e) == index {
-            r = rows::union(r, rows::one(e));
-        }
-        from = rows::without(from, e);
-    }
-    r
+    keep(own, |e| num2(s, 6 + 12 * e) == index)
 }
 
 // Row i gets the events of entry i, row 16 those of all entries.
@@ -33,15 +25,11 @@ pub fn enter(s: &[u8], locks: Part, f: &[u64], k: &mut [u64])
     requires { Right s.now × Stands s.now 4 locks × Sorted (execution_of s.now) f.now × HasRows k.old 17 × Blank k.old }
     ensures { Entered (execution_of s.now) k.new }
 {
-    let from = locks.at;
-    let m = locks.count;
-    let mut i = 0;
-    while i < m {
-        let at = from + 4 * i;
+    for i in 0..locks.count {
+        let at = locks.at + 4 * i;
         let here = indexed(s, rows::row(f, num1(s, at)), num2(s, at + 2));
         rows::add(k, i, here);
         rows::add(k, 16, here);
-        i += 1;
     }
 }
 
@@ -50,11 +38,8 @@ pub fn mate(s: &[u8], locks: Part, k: &[u64], m: &mut [u64])
     requires { Right s.now × Stands s.now 4 locks × Entered (execution_of s.now) k.now × HasRows m.old 64 × Blank m.old }
     ensures { Mated (execution_of s.now) m.new }
 {
-    let g = locks.count;
-    let mut i = 0;
-    while i < g {
+    for i in 0..locks.count {
         let here = rows::row(k, i);
         rows::spread(m, here, here);
-        i += 1;
     }
 }

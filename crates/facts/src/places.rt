@@ -7,6 +7,7 @@ ghost use Rattle.record.specs.Says.{execution_of};
 ghost use Rattle.record.specs.Words.{SamePlace};
 ghost use Rattle.facts.specs.Facts.{Blank, Sorted, Slotted, Peers, Placed};
 
+use crate::sets::keep;
 use record::events::event_of;
 use rows::Set;
 
@@ -17,16 +18,9 @@ fn peers(s: &[u8], f: &[u64], left: Set, e: usize) -> Set
 {
     let x = event_of(s, e);
     if x.kind < 2 {
-        return rows::common(left, rows::union(rows::row(f, 4), rows::row(f, 5)));
+        return left & (rows::row(f, 4) | rows::row(f, 5));
     }
-    let p = x.processor;
-    rows::common(
-        left,
-        rows::common(
-            rows::row(f, p),
-            rows::union(rows::row(f, 6), rows::row(f, 7)),
-        ),
-    )
+    left & rows::row(f, x.processor) & (rows::row(f, 6) | rows::row(f, 7))
 }
 
 // Row v gets the events whose place is v modulo 64.
@@ -34,12 +28,8 @@ fn put_slots(s: &[u8], n: usize, t: &mut [u64])
     requires { Right s.now × (n ≡ (execution_of s.now).events.size) × HasRows t.old 64 × Blank t.old }
     ensures { Slotted (execution_of s.now) t.new }
 {
-    let mut e = 0;
-    while e < n {
-        let x = event_of(s, e);
-        let place = x.place;
-        rows::link(t, place % 64, e);
-        e += 1;
+    for e in 0..n {
+        rows::link(t, event_of(s, e).place % 64, e);
     }
 }
 
@@ -50,21 +40,12 @@ fn alike(s: &[u8], f: &[u64], t: &[u64], left: Set, e: usize) -> Set
 {
     let x = event_of(s, e);
     let place = x.place;
-    let near = rows::common(left, rows::row(t, place % 64));
-    let mut from = peers(s, f, near, e);
+    let near = left & rows::row(t, place % 64);
+    let possible = peers(s, f, near, e);
     if 2 <= x.kind {
-        return from;
+        return possible;
     }
-    let mut r = rows::none();
-    while rows::any(from) {
-        let k = rows::first(from);
-        let y = event_of(s, k);
-        if y.place == place {
-            r = rows::union(r, rows::one(k));
-        }
-        from = rows::without(from, k);
-    }
-    r
+    keep(possible, |k| event_of(s, k).place == place)
 }
 
 // Row a gets the events at a's place, which are found by the rows of t.
@@ -72,12 +53,11 @@ fn put_places(s: &[u8], n: usize, f: &[u64], t: &[u64], q: &mut [u64])
     requires { Right s.now × (n ≡ (execution_of s.now).events.size) × Sorted (execution_of s.now) f.now × Slotted (execution_of s.now) t.now × HasRows q.old 64 × Blank q.old }
     ensures { Placed (execution_of s.now) q.new }
 {
-    let mut left = rows::full(n);
-    while rows::any(left) {
-        let e = rows::first(left);
+    let mut left = Set::full(n);
+    while let Some(e) = left.first() {
         let like = alike(s, f, t, left, e);
         rows::spread(q, like, like);
-        left = rows::minus(left, like);
+        left = left - like;
     }
 }
 

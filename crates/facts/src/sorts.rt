@@ -12,13 +12,9 @@ pub fn sort(s: &[u8], n: usize, f: &mut [u64])
     requires { Right s.now × (n ≡ (execution_of s.now).events.size) × HasRows f.old 8 × Blank f.old }
     ensures { Sorted (execution_of s.now) f.new }
 {
-    let mut e = 0;
-    while e < n {
+    for e in 0..n {
         let x = event_of(s, e);
-        let p = x.processor;
-        let k = x.kind;
-        rows::link(f, p, e);
-        rows::link(f, 4 + k, e);
-        e += 1;
+        rows::link(f, x.processor, e);
+        rows::link(f, 4 + x.kind, e);
     }
 }

@@ -1,7 +1,6 @@
 -- Rule 24 in one view: a cycle stands in the evidence behind the processor.
 use Prim.Native.Nat.{ℕ, ◌+◌, ◌-◌, ◌<◌, ◌≤◌}
 use mathlib.Core.Path.{◌≡◌, refl, ap, ◌∙◌}
-use mathlib.Core.Logic.{inl, inr}
 use mathlib.Core.List.{List, [], ◌∷◌, ◌++◌, append-nil}
 use native.Mathlib.Omega.{arith}
 use lib.ListN.{length, take, drop, set, length-drop, drop_of_length-le}
@@ -9,10 +8,10 @@ use lib.Seq.{take_all, drop-drop}
 use borrow.Rule.Slice.PartMut.{put_mid, mid_of, post_of, put_same}
 use Rattle.order.specs.Relation.{Cyclic}
 use Rattle.order.specs.Evidence.{Written}
-use Rattle.order.proofs.Cycles.{cycle_within, cycle_some}
+use Rattle.order.proofs.Cycles.{cycle_within}
 use Rattle.order.proofs.Rules.{shown_first_lem, round_cyclic, shown_as, cyclic_as}
 use Rattle.rows.specs.Table.{on}
-use Rattle.cycles.specs.Showing.{Showing}
+use Rattle.cycles.specs.Showing.{Exhibited}
 use Rattle.record.specs.Execution.{Execution}
 use Rattle.record.specs.Formed.{Formed}
 use Rattle.model.specs.Model.{OrderFor}
@@ -50,36 +49,26 @@ module _ (ev ys : List ℕ) (h : 0 < length ev) where
         ∙ ap (λ (x : List ℕ). p ∷ (ys ++ x)) after ∙ ap (λ (x : List ℕ). p ∷ x) (append-nil ys ∙ w ∙ ap (λ (x : List ℕ). l ++ x) (rest k)),
   )
 
--- a cycle has an event
 module _ (z : Execution) (f : Formed z) (p : ℕ) (h : p < z.processors) (t : List ℕ) (g : Arranged z p t) (n : ℕ) (e : n ≡ z.events.size)
-    (ev ys : List ℕ) (k : ℕ) (long : 0 < length ev) (w : Showing (on n t) (mid_of 1 (length ev - 1) ev) ys k) where
-  pub cycle_none : k ≤ 0 → (Cyclic (OrderFor z p) → ⊥) × (put_mid 1 (length ev - 1) ev ys ≡ ev)
-  cycle_none l = go w
-    where
-      go : Showing (on n t) (mid_of 1 (length ev - 1) ev) ys k → (Cyclic (OrderFor z p) → ⊥) × (put_mid 1 (length ev - 1) ev ys ≡ ev)
-      go (inl (a, b, c)) = ((λ x. a (cyclic_as _ (on n t) (order_rows z f p h t g n e) x)), put_nothing ev ys long c)
-      go (inr (m, s, v)) = let q = cycle_some (on n t) m s.cycle in let d = v.0 in absurd (omega arith)
+    (ev ys : List ℕ) (long : 0 < length ev) where
+  pub cycle_none : (Cyclic (on n t) → ⊥) × (ys ≡ mid_of 1 (length ev - 1) ev) → (Cyclic (OrderFor z p) → ⊥) × (put_mid 1 (length ev - 1) ev ys ≡ ev)
+  cycle_none (a, c) = ((λ x. a (cyclic_as _ (on n t) (order_rows z f p h t g n e) x)), put_nothing ev ys long c)
 
-  pub cycle_some_shown : 0 < k → ShownAt (rule24 z) p ev (set (put_mid 1 (length ev - 1) ev ys) 0 p) (k + 1)
-  cycle_some_shown l = go w
-    where
-      go : Showing (on n t) (mid_of 1 (length ev - 1) ev) ys k → ShownAt (rule24 z) p ev (set (put_mid 1 (length ev - 1) ev ys) 0 p) (k + 1)
-      go (inl (a, b, c)) = absurd (omega arith)
-      go (inr (m, s, v)) =
-          let d = shown_first_lem (OrderFor z p) m (shown_as (on n t) _ (rows_order z f p h t g n e) (order_rows z f p h t g n e) m s) in
-          (length m ∷ m, record { has = (h, d.has); least = λ x q. d.least x q.1 }, omega arith, put_behind ev ys long p k m v)
+  module _ (k : ℕ) (w : Exhibited (on n t) (mid_of 1 (length ev - 1) ev) ys k) where
+    pub cycle_some_shown : ShownAt (rule24 z) p ev (set (put_mid 1 (length ev - 1) ev ys) 0 p) (k + 1)
+    cycle_some_shown =
+        let (m, s, v) = w in
+        let d = shown_first_lem (OrderFor z p) m (shown_as (on n t) _ (rows_order z f p h t g n e) (order_rows z f p h t g n e) m s) in
+        (length m ∷ m, record { has = (h, d.has); least = λ x q. d.least x q.1 }, omega arith, put_behind ev ys long p k m v)
 
-  -- a shown cycle has at most as many events as there are
-  pub cycle_few : n ≤ 64 → k ≤ 64
-  cycle_few l = go w
-    where
-      go : Showing (on n t) (mid_of 1 (length ev - 1) ev) ys k → k ≤ 64
-      go (inl (a, b, c)) = omega arith
-      go (inr (m, s, v)) =
-          let (x, y, q) = cycle_within (on n t) n (λ a b r. (r.0, r.1)) (m, s.cycle) in
-          let o = s.shortest x y in
-          let d = v.0 in
-          omega arith
+    -- a shown cycle has at most as many events as there are
+    pub cycle_few : n ≤ 64 → k ≤ 64
+    cycle_few l =
+        let (m, s, v) = w in
+        let (x, y, q) = cycle_within (on n t) n (λ a b r. (r.0, r.1)) (m, s.cycle) in
+        let o = s.shortest x y in
+        let d = v.0 in
+        omega arith
 
 pub cycle_quiet : (z : Execution) (p : ℕ) → (Cyclic (OrderFor z p) → ⊥) → QuietAt (rule24 z) p
 cycle_quiet z p f w (h, r) = f (round_cyclic (OrderFor z p) w r)

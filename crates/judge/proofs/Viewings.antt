@@ -4,6 +4,7 @@ use mathlib.Core.Path.{◌≡◌, refl}
 use mathlib.Core.Logic.{◌⊎◌, inl, inr}
 use mathlib.Core.List.{List, [], ◌∷◌}
 use native.Mathlib.Omega.{arith}
+use Rattle.std.specs.Prelude.{Some}
 use Rattle.order.specs.Rule.{Rule, Kept, Judged, Of}
 use Rattle.order.specs.Evidence.{Given, Ruled}
 use Rattle.order.proofs.Dictionaries.{firstly_cons}
@@ -12,7 +13,7 @@ use Rattle.order.proofs.Judgements.{rule_shown, given_next, given_none}
 use Rattle.record.specs.Execution.{Execution}
 use Rattle.model.specs.Rules.{rule24, Overwritten, WrongInitial, Torn}
 use Rattle.model.proofs.Breaks.{initial_own}
-use Rattle.judge.specs.Later.{later_rule, later_rules, QuietAt, ShownAt, RuledAt}
+use Rattle.judge.specs.Later.{later_rule, later_rules, QuietAt, ShownAt}
 
 -- the empty list does not break the rule, and the first number of a list that does is below n
 pub record Opens (n : ℕ) (q : Rule) : Type 0 where
@@ -26,8 +27,8 @@ module _ (n : ℕ) (q : Rule) (o : Opens n q) where
   quiet_kept f (p ∷ w) h = f p (o.low p w h) w h
 
   -- the first view that is not
-  pub view_shown : (p : ℕ) → ((k : ℕ) → k < p → QuietAt q k) → (b a : List ℕ) (k : ℕ) → ShownAt q p b a k → Ruled q b a k
-  view_shown p f b a k (w, d, l, x) = inr (q.shown (p ∷ w), (p ∷ w, firstly_cons q.Breaks p w o.nil f d, refl), l, x)
+  pub view_shown : (p : ℕ) → ((k : ℕ) → k < p → QuietAt q k) → (b a : List ℕ) (k : ℕ) → ShownAt q p b a k → Ruled q b a (Some k)
+  view_shown p f b a k (w, d, l, x) = (q.shown (p ∷ w), (p ∷ w, firstly_cons q.Breaks p w o.nil f d, refl), l, x)
 
 -- one view more
 pub quiet_next : (q : Rule) (p : ℕ) → ((k : ℕ) → k < p → QuietAt q k) → QuietAt q p → (k : ℕ) → k < p + 1 → QuietAt q k
@@ -36,14 +37,6 @@ quiet_next q p f g k h w b = go (last_or p k (omega arith))
     go : (k ≡ p) ⊎ (k < p) → ⊥
     go (inl e) = g w (rw e at b)
     go (inr l) = f k l w b
-
-pub ruled_quiet : (q : Rule) (p : ℕ) (b a : List ℕ) (k : ℕ) → RuledAt q p b a k → (0 < k → ⊥) → QuietAt q p × (a ≡ b)
-ruled_quiet q p b a k (inl (f, z, e)) h = (f, e)
-ruled_quiet q p b a k (inr (w, d, l, x)) h = absurd (h l)
-
-pub ruled_shown : (q : Rule) (p : ℕ) (b a : List ℕ) (k : ℕ) → RuledAt q p b a k → 0 < k → ShownAt q p b a k
-ruled_shown q p b a k (inl (f, z, e)) h = absurd (omega arith)
-ruled_shown q p b a k (inr x) h = x
 
 module _ (z : Execution) where
   pub opens_24 : Opens z.processors (rule24 z)
@@ -76,13 +69,13 @@ module _ (z : Execution) where
   opens_later (suc (suc i)) = record { nil = λ h. h; low = low_27 }
 
   -- the judgement by the rules 25 to 27, the first of which, i of them, are kept
-  pub later_shown : (i : ℕ) → i < 3 → ((j : ℕ) → j < i → Kept (later_rule z j)) → (b a : List ℕ) (k : ℕ) → Ruled (later_rule z i) b a k → 0 < k
+  pub later_shown : (i : ℕ) → i < 3 → ((j : ℕ) → j < i → Kept (later_rule z j)) → (b a : List ℕ) (k : ℕ) → Ruled (later_rule z i) b a (Some k)
       → Given (Judged (later_rules z)) b a (25 + i) k
-  later_shown zero h f b a k r l = rule_shown (later_rule z 0) _ b a k r l
-  later_shown (suc zero) h f b a k r l = given_next (later_rule z 0) _ b a _ k (f 0 (omega arith)) (rule_shown (later_rule z 1) _ b a k r l)
-  later_shown (suc (suc zero)) h f b a k r l =
-      given_next (later_rule z 0) _ b a _ k (f 0 (omega arith)) (given_next (later_rule z 1) _ b a _ k (f 1 (omega arith)) (rule_shown (later_rule z 2) _ b a k r l))
-  later_shown (suc (suc (suc i))) h f b a k r l = absurd (omega arith)
+  later_shown zero h f b a k r = rule_shown (later_rule z 0) _ b a k r
+  later_shown (suc zero) h f b a k r = given_next (later_rule z 0) _ b a _ k (f 0 (omega arith)) (rule_shown (later_rule z 1) _ b a k r)
+  later_shown (suc (suc zero)) h f b a k r =
+      given_next (later_rule z 0) _ b a _ k (f 0 (omega arith)) (given_next (later_rule z 1) _ b a _ k (f 1 (omega arith)) (rule_shown (later_rule z 2) _ b a k r))
+  later_shown (suc (suc (suc i))) h f b a k r = absurd (omega arith)
 
   pub later_kept : ((j : ℕ) → j < 3 → Kept (later_rule z j)) → (b : List ℕ) → Given (Judged (later_rules z)) b b 0 0
   later_kept f b =

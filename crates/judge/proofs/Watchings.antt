@@ -19,8 +19,8 @@ use Rattle.record.specs.Laid.{Views}
 use Rattle.record.specs.declared.Part.{Part}
 use Rattle.model.specs.Model.{OrderFor}
 use Rattle.model.specs.Rules.{rule24, order_rules}
-use Rattle.judge.specs.declared.Look.{Look}
-use Rattle.judge.specs.Later.{later_rule, later_rules, QuietAt, Looked}
+use Rattle.judge.specs.declared.Look.TheVariants.{Acyclic}
+use Rattle.judge.specs.Later.{later_rule, later_rules, QuietAt, ShownAt, Looked}
 use Rattle.judge.specs.Ordered.{NoCycle}
 use Rattle.judge.proofs.Behind.{cycle_quiet}
 use Rattle.judge.proofs.Viewings.{quiet_kept, view_shown, opens_24, opens_later, later_kept}
@@ -55,30 +55,23 @@ module _ (s b : List ℕ) where
     pub watched_long : 65 ≤ length b → 65 ≤ length c
     watched_long l = rw x.same l
 
-    module _ (a : List ℕ) (r : Look) (w : Looked (execution_of s) p c a r) where
-      pub watched_shown : 0 < r.count → Given (Judged (order_rules (execution_of s))) b a 24 r.count
-      watched_shown l = go w
-        where
-          go : Looked (execution_of s) p c a r → Given (Judged (order_rules (execution_of s))) b a 24 r.count
-          go (inl h) =
-              subst (λ (y : List ℕ). Given (Judged (order_rules (execution_of s))) y a 24 r.count) x.same
-              (rule_shown (rule24 (execution_of s)) (later_rules (execution_of s)) c a r.count
-              (view_shown _ (rule24 (execution_of s)) (opens_24 (execution_of s)) p (λ k n. cycle_quiet (execution_of s) k (x.acyclic k n)) c a r.count h) l)
-          go (inr h) = let e = h.0 in absurd (omega arith)
+    module _ (a : List ℕ) where
+      pub watched_shown : (k : ℕ) → ShownAt (rule24 (execution_of s)) p c a k → Given (Judged (order_rules (execution_of s))) b a 24 k
+      watched_shown k h =
+          subst (λ (y : List ℕ). Given (Judged (order_rules (execution_of s))) y a 24 k) x.same
+          (rule_shown (rule24 (execution_of s)) (later_rules (execution_of s)) c a k
+          (view_shown _ (rule24 (execution_of s)) (opens_24 (execution_of s)) p (λ k n. cycle_quiet (execution_of s) k (x.acyclic k n)) c a k h))
 
-      pub watched_more : p < (execution_of s).processors → (v : Part) → Views s p v → r.count ≤ 0 → Watched s b a (v.at + v.count) (all && r.calm) (p + 1)
-      watched_more l v views n = go w
-        where
-          go : Looked (execution_of s) p c a r → Watched s b a (v.at + v.count) (all && r.calm) (p + 1)
-          go (inl h) = let e = h.2 in absurd (omega arith)
-          go (inr h) = record {
-            upto = omega arith;
-            place = let n = view_start_next s p in let y = views.place in let w = views.number in omega arith;
-            same = h.1 ∙ x.same;
-            acyclic = one_more (λ k. Cyclic (OrderFor (execution_of s) k) → ⊥) p x.acyclic h.2;
-            calm = λ q. let e = (by_and all r.calm (by_flag all) (by_flag r.calm)).holds q in
-                one_more (λ k. (i : ℕ) → i < 3 → QuietAt (later_rule (execution_of s) i) k) p (x.calm e.0) (h.3 e.1);
-          }
+      pub watched_more : (calm : Bool) → Looked (execution_of s) p c a (Acyclic calm) → p < (execution_of s).processors → (v : Part) → Views s p v
+          → Watched s b a (v.at + v.count) (all && calm) (p + 1)
+      watched_more calm h l v views = record {
+        upto = omega arith;
+        place = let n = view_start_next s p in let y = views.place in let w = views.number in omega arith;
+        same = h.0 ∙ x.same;
+        acyclic = one_more (λ k. Cyclic (OrderFor (execution_of s) k) → ⊥) p x.acyclic h.1;
+        calm = λ q. let e = (by_and all calm (by_flag all) (by_flag calm)).holds q in
+            one_more (λ k. (i : ℕ) → i < 3 → QuietAt (later_rule (execution_of s) i) k) p (x.calm e.0) (h.2 e.1);
+      }
 
     module _ (l : (execution_of s).processors ≤ p) where
       pub no_cycle : NoCycle (execution_of s)

@@ -3,6 +3,7 @@ ghost use Rattle.std.specs.Prelude.{◌≤◌, length, ◌++◌};
 ghost use Rattle.order.specs.Rule.{Judged, AllKept};
 ghost use Rattle.order.specs.Evidence.{Given};
 ghost use Rattle.form.specs.Right.{Right};
+ghost use Rattle.record.specs.Refusals.{answer_of, count_of};
 ghost use Rattle.record.specs.Says.{execution_of};
 ghost use Rattle.record.specs.Laid.{Laid};
 ghost use Rattle.facts.specs.Facts.{Gathered};
@@ -16,10 +17,10 @@ use crate::views::from_twentyfour;
 use facts::Classes;
 use facts::gather::gather;
 use facts::locks::mate;
-use form::Step;
 use form::whole::whole;
 use orders::lists::{put_sources, sourced};
 use orders::union::put_happens_before;
+use record::refusal::Refusal;
 use record::sections::layout;
 use record::{Layout, Verdict};
 use structure::rules::structure;
@@ -34,9 +35,9 @@ fn ordered(
     c: Classes,
     t: &mut [u64],
     ev: &mut [u16],
-) -> Verdict
+) -> Result<(), Refusal>
     requires { Gathered s.now l f.now q.now k.now c × Held (execution_of s.now) t.old × AllKept (witness_rules (execution_of s.now)) × (65 ≤ length ev.old) }
-    ensures { Given (Judged (order_rules (execution_of s.now))) ev.old ev.new result.answer result.count }
+    ensures { Given (Judged (order_rules (execution_of s.now))) ev.old ev.new (answer_of result) (count_of result) }
 {
     let locks = l.locks;
     let sources = l.sources;
@@ -63,31 +64,25 @@ fn from_twenty(
     c: Classes,
     t: &mut [u64],
     ev: &mut [u16],
-) -> Verdict
+) -> Result<(), Refusal>
     requires { Gathered s.now l f.now q.now k.now c × Held (execution_of s.now) t.old × (65 ≤ length ev.old) }
-    ensures { Given (Judged (check_rules (execution_of s.now))) ev.old ev.new result.answer result.count }
+    ensures { Given (Judged (check_rules (execution_of s.now))) ev.old ev.new (answer_of result) (count_of result) }
 {
-    let v = witness::witness(s, l, f, q, c, ev);
-    if v.answer != 0 {
-        return v;
-    }
+    witness::witness(s, l, f, q, c, ev)?;
     ordered(s, l, f, q, k, c, t, ev)
 }
 
 // All rules of a record that has the form.
-fn from_ten(s: &[u8], l: Layout, ev: &mut [u16]) -> Verdict
+fn from_ten(s: &[u8], l: Layout, ev: &mut [u16]) -> Result<(), Refusal>
     requires { Right s.now × Laid s.now l × (65 ≤ length ev.old) }
-    ensures { Given (Judged (structure_rules (execution_of s.now) ++ check_rules (execution_of s.now))) ev.old ev.new result.answer result.count }
+    ensures { Given (Judged (structure_rules (execution_of s.now) ++ check_rules (execution_of s.now))) ev.old ev.new (answer_of result) (count_of result) }
 {
     let mut f = [0u64; 8];
     let mut q = [0u64; 64];
     let mut k = [0u64; 17];
     let mut t = [0u64; 64];
     let c = gather(s, l, &mut f, &mut q, &mut k);
-    let v = structure(s, l, &q, &k, c, &mut t, ev);
-    if v.answer != 0 {
-        return v;
-    }
+    structure(s, l, &q, &k, c, &mut t, ev)?;
     from_twenty(s, l, &f, &q, &k, c, &mut t, ev)
 }
 
@@ -102,13 +97,13 @@ pub fn check(s: &[u8], ev: &mut [u16]) -> Verdict
         };
     }
     match whole(s) {
-        Step::Stop(f) => {
+        Err(f) => {
             ev[0] = f.section;
             Verdict {
                 answer: f.answer,
                 count: 1,
             }
         }
-        Step::Next(_) => from_ten(s, layout(s), ev),
+        Ok(_) => from_ten(s, layout(s), ev).into(),
     }
 }

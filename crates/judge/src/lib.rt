@@ -22,9 +22,17 @@ pub struct Known {
     pub sourced: Set,
 }
 
-// A look at a view: how many entries the evidence against rule 24 has and, where there are none, whether the view is calm: it keeps the rules after 24.
-#[derive(Clone, Copy)]
-pub struct Look {
-    pub count: usize,
-    pub calm: bool,
+// The rules after 24, each of which is judged in one view after the other.
+#[derive(Clone, Copy, PartialEq, Eq)]
+pub enum Later {
+    Overwritten,
+    Uninitial,
+    Torn,
+}
+
+// A look at a view: a cycle, and how many entries the evidence against rule 24 has; or none, and whether the view is calm: it keeps the rules after 24.
+#[derive(Clone, Copy, PartialEq, Eq)]
+pub enum Look {
+    Cycle(usize),
+    Acyclic { calm: bool },
 }

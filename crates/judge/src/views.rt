@@ -4,6 +4,7 @@ ghost use Rattle.order.specs.Rule.{Judged};
 ghost use Rattle.order.specs.Evidence.{Given};
 ghost use Rattle.rows.specs.Members.{Is};
 ghost use Rattle.form.specs.Right.{Right};
+ghost use Rattle.record.specs.Refusals.{answer_of, count_of};
 ghost use Rattle.record.specs.Says.{execution_of};
 ghost use Rattle.record.specs.Laid.{Laid, Views};
 ghost use Rattle.facts.specs.Facts.{Mated, Sorted};
@@ -19,8 +20,9 @@ use crate::{Known, Look};
 use axioms::initial::uninitial;
 use axioms::locked::torn;
 use axioms::overwritten::overwritten;
+use record::Part;
 use record::lists::view_of;
-use record::{Part, Verdict};
+use record::refusal::Refusal;
 use rows::Set;
 
 // Whether the view of p, which has passed rule 24, keeps the rules after it.
@@ -32,9 +34,9 @@ fn calm(s: &[u8], t: &[u64], q: &[u64], m: &[u64], u: &[u64], g: Known, seen: Se
     let c = g.classes;
     let l = g.layout;
     let initials = l.initials;
-    (overwritten(t, q, u, c, seen) == 64)
-        & ((uninitial(s, initials, t, q, c, g.sourced, seen) == 64)
-            & (torn(t, m, c.locked, seen) == 64))
+    overwritten(t, q, u, c, seen).is_none()
+        && uninitial(s, initials, t, q, c, g.sourced, seen).is_none()
+        && torn(t, m, c.locked, seen).is_none()
 }
 
 // Looks at the view of p. A cycle is written behind p, into the part of the buffer after its first entry.
@@ -58,16 +60,11 @@ fn look(
     let n = l.events;
     let mut t = [0u64; 64];
     arrange(s, n, view, h, &mut t);
-    let k = cycles::show(&t, n, &mut ev[1..]);
-    if 0 < k {
+    if let Some(k) = cycles::show(&t, n, &mut ev[1..]) {
         ev[0] = p as u16;
-        return Look {
-            count: k + 1,
-            calm: false,
-        };
+        return Look::Cycle(k + 1);
     }
-    Look {
-        count: 0,
+    Look::Acyclic {
         calm: calm(s, &t, q, m, u, g, seen),
     }
 }
@@ -82,33 +79,24 @@ pub fn from_twentyfour(
     h: &[u64],
     g: Known,
     ev: &mut [u16],
-) -> Verdict
+) -> Result<(), Refusal>
     requires { Ordered s.now q.now m.now u.now h.now g × Sorted (execution_of s.now) f.now × (65 ≤ length ev.old) }
-    ensures { Given (Judged (order_rules (execution_of s.now))) ev.old ev.new result.answer result.count }
+    ensures { Given (Judged (order_rules (execution_of s.now))) ev.old ev.new (answer_of result) (count_of result) }
 {
     let n = g.layout.processors;
     let mut at = g.layout.views;
     let mut all = true;
-    let mut p = 0;
-    while p < n {
+    for p in 0..n {
         let view = view_of(s, p, at);
-        let seen = rows::union(rows::row(f, p), g.classes.stores);
-        let found = look(s, view, q, m, u, h, g, seen, p, ev);
-        if 0 < found.count {
-            return Verdict {
-                answer: 24,
-                count: found.count,
-            };
+        let seen = rows::row(f, p) | g.classes.stores;
+        match look(s, view, q, m, u, h, g, seen, p, ev) {
+            Look::Cycle(count) => return Err(Refusal { answer: 24, count }),
+            Look::Acyclic { calm } => all = all & calm,
         }
-        all = all & found.calm;
         at = view.at + view.count;
-        p += 1;
     }
     if all {
-        return Verdict {
-            answer: 0,
-            count: 0,
-        };
+        return Ok(());
     }
     closer(s, f, q, m, u, h, g, ev)
 }

@@ -5,13 +5,13 @@ use mathlib.Core.Path.{◌≡◌, refl, subst}
 use mathlib.Core.Logic.{◌↔◌, inl, inr}
 use mathlib.Core.List.{List, [], ◌∷◌}
 use native.Mathlib.Omega.{arith}
+use Rattle.std.specs.Prelude.{Ok}
 use Rattle.order.specs.Least.{Some}
 use Rattle.order.specs.Relation.{Cyclic}
 use Rattle.order.specs.Rule.{Kept, rule, Judged, AllKept, Numbered, Rounds}
 use Rattle.order.proofs.Judgements.{judged_zero, zero_judged, judged_then, judged_behind}
 use Rattle.order.proofs.Rules.{round_cyclic, kept_cycles}
 use Rattle.form.specs.Whole.{whole}
-use Rattle.form.specs.declared.Step.TheVariants.{Next}
 use Rattle.form.proofs.Rights.{whole_well}
 use Rattle.record.specs.Execution.{Execution}
 use Rattle.record.specs.Formed.{Formed}
@@ -132,7 +132,7 @@ well_formed s p = let q = passed s p in structure_formed (execution_of s) q.form
 
 -- a record that has the form passes exactly if it says a well-formed event structure and keeps rule 12, which asks for a pair of section 3
 -- where HOL asks for a chain of them
-pub structured : (s : List ℕ) (end : ℕ) → whole s ≡ Next end
+pub structured : (s : List ℕ) (end : ℕ) → whole s ≡ Ok end
     → Passes s ↔ (wfes (structure_of (execution_of s)) × Kept (rule 12 2 (Unordered (execution_of s))))
 unfolding examination Judged
 structured s end r = (λ p. to (passed s p), λ w. rw r (judged_then (structure_rules (execution_of s)) [] 0 [] ((structure_is _ form).1 w) (refl, refl)))

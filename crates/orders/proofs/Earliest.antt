@@ -1,6 +1,6 @@
 -- The members of a set with the least index: found member by member, and there are some where there is a member.
 use Prim.Native.Nat.{ℕ, ◌+◌, ◌<◌, ◌≤◌}
-use mathlib.Core.Path.{◌≡◌, refl, sym, ap, ◌∙◌}
+use mathlib.Core.Path.{◌≡◌, refl, ap, ◌∙◌}
 use mathlib.Core.Logic.{◌⊎◌, inl, inr, ⊎_elim}
 use mathlib.Core.List.{List}
 use native.Mathlib.Omega.{arith}
@@ -11,7 +11,7 @@ use Rattle.order.proofs.Numbers.{dec_some, least}
 use Rattle.rows.specs.Members.{In, Is, Member}
 use Rattle.rows.specs.declared.Set.{Set}
 use Rattle.rows.proofs.Members.{in_low, dec_in}
-use Rattle.rows.proofs.Filters.{Filtering, filter_begin, filter_more, filter_skip}
+use Rattle.rows.proofs.Filters.{Filtering, filter_skip}
 use Rattle.form.specs.Place.{entry_at}
 use Rattle.form.proofs.Numbers.{num_one, num_two}
 use Rattle.record.specs.Execution.{Execution}
@@ -23,12 +23,9 @@ use Rattle.orders.specs.Programs.{Earliest}
 pub record Seeking (z : Execution) (all from : Set) (low : ℕ) (r : Set) : Type 0 where
   pub kept : Filtering (λ a. (z.events.item a).index ≡ low) all from r
   pub above : (a : ℕ) → In all a → (In from a → ⊥) → low ≤ (z.events.item a).index
-  pub got : (low ≡ 65536) ⊎ Member r
+  pub got : (low ≡ 65535) ⊎ Member r
 
 module _ (z : Execution) (all : Set) where
-  pub seek_begin : (r : Set) → Is r (λ k. ⊥) → Seeking z all all 65536 r
-  seek_begin r i = record { kept = filter_begin _ all r i; above = λ a m g. absurd (g m); got = inl refl }
-
   module _ (from : Set) (low : ℕ) (r : Set) (p : Seeking z all from low r) (a : ℕ) (m : In from a) (x : Event) (e : x ≡ z.events.item a)
       (less : Set) (k : Is less (λ j. In from j × (j ≡ a → ⊥))) where
     same : x.index ≡ (z.events.item a).index
@@ -45,26 +42,6 @@ module _ (z : Execution) (all : Set) where
     lowered : (l : ℕ) → l ≤ low → l ≤ x.index → (b : ℕ) → In all b → (In less b → ⊥) → l ≤ (z.events.item b).index
     lowered l h f b n g =
         ⊎_elim (λ o. let q = p.above b n o in omega arith) (λ (o : b ≡ a). rw o (let q = same in omega arith)) (out b g)
-
-    pub seek_lower : x.index < low → (one : Set) → Is one (λ j. j ≡ a) → Seeking z all less x.index one
-    seek_lower h one o = record {
-      kept = record {
-        part = λ b l. p.kept.part b (k.says b l).0;
-        is = record {
-          says = λ b i. let q = o.says b i in rw q (p.kept.part a m, (λ l. (k.says a l).1 refl), sym same);
-          has = λ b (n, g, f). ⊎_elim (λ w. absurd (let q = p.above b n w in omega arith)) (λ q. o.has b q) (out b g);
-        };
-      };
-      above = lowered x.index (omega arith) (omega arith);
-      got = inr (a, o.has a refl);
-    }
-
-    pub seek_equal : x.index ≡ low → (one both : Set) → Is one (λ j. j ≡ a) → Is both (λ b. In r b ⊎ In one b) → Seeking z all less low both
-    seek_equal h one both o u = record {
-      kept = filter_more _ all from r p.kept a m less k (sym same ∙ h) one both o u;
-      above = lowered low (omega arith) (omega arith);
-      got = inr (a, u.has a (inr (o.has a refl)));
-    }
 
     pub seek_skip : low ≤ x.index → (x.index ≡ low → ⊥) → Seeking z all less low r
     seek_skip h g = record {
@@ -87,7 +64,7 @@ module _ (z : Execution) (all : Set) where
       above b m = p.above b m (out b)
 
       at : (e : ℕ) → In all e → ((b : ℕ) → In all b → (z.events.item e).index ≤ (z.events.item b).index)
-          → (low ≡ 65536) ⊎ Member r → (z.events.item e).index ≡ low
+          → (low ≡ 65535) ⊎ Member r → (z.events.item e).index ≡ low
       at e m f (inl q) = let h = small e in let w = above e m in omega arith
       at e m f (inr (b, i)) = let (n, o, q) = p.kept.is.says b i in let h = f b n in let w = above e m in omega arith
 

@@ -4,10 +4,10 @@ use mathlib.Core.Path.{◌≡◌, refl, ap}
 use mathlib.Core.Logic.{◌⊎◌, inl, inr, ⊎_elim}
 use native.Mathlib.Omega.{arith}
 use native.Mathlib.Decide.{ℕ_discrete, dec_lt}
-use Rattle.order.specs.Least.{Some, Hit}
+use Rattle.order.specs.Least.{Some, Least}
 use Rattle.rows.specs.Members.{In, Is, Member}
 use Rattle.rows.specs.declared.Set.{Set}
-use Rattle.rows.proofs.Members.{in_low, first_in}
+use Rattle.rows.proofs.Members.{dec_in}
 use Rattle.record.specs.Execution.{Execution}
 use Rattle.record.specs.declared.Event.{Event}
 use Rattle.orders.specs.Programs.{Earliest, Headed}
@@ -25,24 +25,10 @@ pub record Heading (z : Execution) (all from : Set) (next : ℕ) (r : Set) : Typ
   pub last : (next ≡ 0) ⊎ ((h : ℕ) × In r h × (next ≡ (z.events.item h).index + 1))
 
 module _ (z : Execution) (all : Set) where
-  pub heads_begin : (r : Set) → Is r (λ k. ⊥) → Heading z all all 0 r
-  heads_begin r i = record {
-    part = λ a m. m;
-    before = λ a b g m. absurd (g.1 g.0);
-    headed = record {
-      part = λ h m. absurd (i.says h m);
-      even = λ a b g k l. absurd (g.1 g.0);
-      rise = λ a h g m l. absurd (g.1 g.0);
-      head = λ b g. absurd (g.1 g.0);
-    };
-    top = λ a g. absurd (g.1 g.0);
-    last = inl refl;
-  }
-
-  module _ (from : Set) (next : ℕ) (r : Set) (p : Heading z all from next r) (some : Member from) (e : ℕ) (f : Hit 64 (In from) e)
+  module _ (from : Set) (next : ℕ) (r : Set) (p : Heading z all from next r) (e : ℕ) (f : Least (In from) e)
       (x : Event) (q : x ≡ z.events.item e) (less : Set) (k : Is less (λ j. In from j × (j ≡ e → ⊥))) where
     here : In from e
-    here = first_in from some e f
+    here = f.0
 
     same : x.index ≡ (z.events.item e).index
     same = ap (λ (y : Event). y.index) q
@@ -65,7 +51,7 @@ module _ (z : Execution) (all : Set) where
       where
         go : Dec (e < b) → e < b
         go (yes w) = w
-        go (no w) = let i = k.says b l in let d = i.1 in absurd (f.none b (omega arith) i.0)
+        go (no w) = let i = k.says b l in let d = i.1 in absurd (f.1 b (omega arith) i.0)
 
     before : (a b : ℕ) → Gone all less a → In less b → a < b
     before a b g l = ⊎_elim (λ w. p.before a b w (k.says b l).0) (λ (w : a ≡ e). let h = later b l in omega arith) (out a g)
@@ -144,96 +130,78 @@ module _ (z : Execution) (all : Set) where
 
 -- ---- from each head to the next
 
--- the heads ahead are the last of all heads, and rest has the members of own from the first of them on
+-- the heads ahead are the last of all heads, and rest has the members of own from the last of the other heads on
 pub record Ahead (own heads rest ahead : Set) : Type 0 where
   pub part : (h : ℕ) → In ahead h → In heads h
-  pub onward : (g h : ℕ) → In ahead g → In heads h → g ≤ h → In ahead h
-  pub is : Is rest (λ k. In own k × Some (k + 1) (In ahead))
+  pub is : Is rest (λ k. In own k × ((h : ℕ) → In heads h → (In ahead h → ⊥) → h ≤ k))
 
 module _ (z : Execution) (own heads : Set) (hd : Headed z (In own) heads) where
   pub ahead_begin : Ahead own heads own heads
-  ahead_begin = record {
-    part = λ h m. m;
-    onward = λ g h m n l. n;
-    is = record { says = λ k m. let (h, l, w) = hd.head k m in (m, (h, l, w.0)); has = λ k q. q.0 };
-  }
+  ahead_begin = record { part = λ h m. m; is = record { says = λ k m. (m, λ h n g. absurd (g n)); has = λ k q. q.0 } }
 
-  module _ (rest ahead : Set) (p : Ahead own heads rest ahead) (some : Member ahead) (h : ℕ) (f : Hit 64 (In ahead) h)
-      (fewer : Set) (k : Is fewer (λ j. In ahead j × (j ≡ h → ⊥))) (n : ℕ) (g : Hit 64 (In fewer) n)
-      (low here : Set) (il : Is low (λ j. j < n)) (ih : Is here (λ j. In rest j × In low j)) where
-    first : In ahead h
-    first = first_in ahead some h f
+  module _ (rest ahead : Set) (p : Ahead own heads rest ahead) (h : ℕ) (f : Least (In ahead) h)
+      (fewer : Set) (k : Is fewer (λ j. In ahead j × (j ≡ h → ⊥))) (low here less : Set) (il : Is low (λ j. j < h))
+      (ih : Is here (λ j. In rest j × In low j)) (ir : Is less (λ j. In rest j × (In here j → ⊥))) where
+    -- a head before h is not ahead
+    behind : (j : ℕ) → j < h → In ahead j → ⊥
+    behind j l m = f.1 j l m
 
-    -- h is at or before every head ahead
-    least : (j : ℕ) → In ahead j → h ≤ j
-    least j m = go (dec_lt j h)
+    -- what stands before h has the index of the last head before
+    pub ahead_here : (e : ℕ) → In here e → Earliest z rest e
+    ahead_here e m = let (i, j) = ih.says e m in let o = (p.is.says e i).0 in (i, λ a q. go a q o (il.says e j) (hd.head e o))
+      where
+        go : (a : ℕ) → In rest a → In own e → e < h → Some (e + 1) (λ g. In heads g × ((z.events.item g).index ≡ (z.events.item e).index))
+            → (z.events.item e).index ≤ (z.events.item a).index
+        go a q o l (g, lg, (mg, eg)) =
+            let (oa, w) = p.is.says a q in
+            let u = hd.even g a (hd.part g mg) oa (w g mg (behind g (omega arith))) in
+            omega arith
+
+    -- what is left stands at h or later
+    past : (j : ℕ) → In less j → h ≤ j
+    past j m = go (dec_lt j h)
       where
         go : Dec (j < h) → h ≤ j
-        go (yes l) = absurd (f.none j l m)
+        go (yes l) = let (i, g) = ir.says j m in absurd (g (ih.has j (i, il.has j l)))
         go (no l) = omega arith
 
-    -- a head after h is at n or later
-    next : (j : ℕ) → In ahead j → h < j → n ≤ j
-    next j m l = go (dec_lt j n)
-      where
-        go : Dec (j < n) → n ≤ j
-        go (yes w) = absurd (g.none j w (k.has j (m, λ v. omega arith)))
-        go (no w) = omega arith
+    pub ahead_first : (a b : ℕ) → In here a → In less b → (z.events.item a).index < (z.events.item b).index
+    ahead_first a b m n =
+        let (i, j) = ih.says a m in
+        let oa = (p.is.says a i).0 in
+        let ob = (p.is.says b (ir.says b n).0).0 in
+        let mh = p.part h f.0 in
+        let u = hd.rise a h oa mh (il.says a j) in
+        let v = hd.even h b (hd.part h mh) ob (past b n) in
+        omega arith
 
-    within : (a b : ℕ) → In rest a → In rest b → b < n → (z.events.item b).index ≤ (z.events.item a).index
-    within a b i j l = go (hd.head b (p.is.says b j).0) (p.is.says a i)
-      where
-        go : Some (b + 1) (λ c. In heads c × ((z.events.item c).index ≡ (z.events.item b).index)) → In own a × Some (a + 1) (In ahead)
-            → (z.events.item b).index ≤ (z.events.item a).index
-        go (c, lc, (mc, ec)) (oa, (d, ld, md)) = at (dec_lt a c)
-          where
-            at : Dec (a < c) → (z.events.item b).index ≤ (z.events.item a).index
-            at (yes w) =
-                let v = least d md in
-                let u = next c (p.onward d c md mc (omega arith)) (omega arith) in
-                absurd (omega arith)
-            at (no w) = let v = hd.even c a (hd.part c mc) oa (omega arith) in omega arith
-
-    pub ahead_here : Is here (Earliest z rest)
-    ahead_here = record {
-      says = λ e m. let (i, j) = ih.says e m in (i, λ a q. within a e q i (il.says e j));
-      has = λ e (m, q). ih.has e (m, il.has e (go e m q (dec_lt e n)));
-    }
-      where
-        go : (e : ℕ) → In rest e → ((a : ℕ) → In rest a → (z.events.item e).index ≤ (z.events.item a).index) → Dec (e < n) → e < n
-        go e m q (yes l) = l
-        go e m q (no l) =
-            let i = in_low rest e m in
-            let (j, d) = k.says n (g.hit (omega arith)) in
-            let v = least n j in
-            let o = hd.part h (p.part h first) in
-            let s = q h (p.is.has h (o, (h, omega arith, first))) in
-            let u = hd.rise h n o (p.part n j) (omega arith) in
-            let w = hd.even n e (hd.part n (p.part n j)) (p.is.says e m).0 (omega arith) in
-            absurd (omega arith)
-
-    pub ahead_more : (less : Set) → Is less (λ j. In rest j × (In here j → ⊥)) → Ahead own heads less fewer
-    ahead_more less l = record {
+    pub ahead_more : Ahead own heads less fewer
+    ahead_more = record {
       part = λ j m. p.part j (k.says j m).0;
-      onward = λ a b m i w. k.has b (p.onward a b (k.says a m).0 i w, λ v. past a b m w v);
-      is = record { says = there; has = λ j q. back j q };
+      is = record {
+        says = λ j m. let (o, w) = p.is.says j (ir.says j m).0 in (o, λ g mg d. at g mg d j w (past j m) (dec_in ahead g));
+        has = λ j (o, w). ir.has j (p.is.has j (o, λ g mg d. w g mg (λ i. d (k.says g i).0)), λ i. out j w (il.says j (ih.says j i).1));
+      };
     }
       where
-        past : (a b : ℕ) → In fewer a → a ≤ b → b ≡ h → ⊥
-        past a b m w v = let (i, d) = k.says a m in let u = least a i in d (omega arith)
-
-        there : (j : ℕ) → In less j → In own j × Some (j + 1) (In fewer)
-        there j m = go (l.says j m) (dec_lt j n)
+        at : (g : ℕ) → In heads g → (In fewer g → ⊥) → (j : ℕ) → ((c : ℕ) → In heads c → (In ahead c → ⊥) → c ≤ j) → h ≤ j → Dec (In ahead g) → g ≤ j
+        at g mg d j w l (no i) = w g mg i
+        at g mg d j w l (yes i) = same (ℕ_discrete g h)
           where
-            go : In rest j × (In here j → ⊥) → Dec (j < n) → In own j × Some (j + 1) (In fewer)
-            go (i, d) (yes w) = absurd (d (ih.has j (i, il.has j w)))
-            go (i, d) (no w) = let v = in_low rest j i in ((p.is.says j i).0, (n, omega arith, g.hit (omega arith)))
+            same : Dec (g ≡ h) → g ≤ j
+            same (yes e) = omega arith
+            same (no e) = absurd (d (k.has g (i, e)))
 
-        back : (j : ℕ) → In own j × Some (j + 1) (In fewer) → In less j
-        back j (o, (c, w, m)) = l.has j (p.is.has j (o, (c, w, (k.says c m).0)), out)
-          where
-            out : In here j → ⊥
-            out i = let v = il.says j (ih.says j i).1 in g.none c (omega arith) m
+        out : (j : ℕ) → ((c : ℕ) → In heads c → (In fewer c → ⊥) → c ≤ j) → j < h → ⊥
+        out j w l = let u = w h (p.part h f.0) (λ i. (k.says h i).1 refl) in omega arith
 
-  pub ahead_done : (rest ahead : Set) → Ahead own heads rest ahead → (Member ahead → ⊥) → Member rest → ⊥
-  ahead_done rest ahead p g (e, m) = let (o, (h, l, i)) = p.is.says e m in g (h, i)
+  -- what is left after the last head is of one index
+  pub ahead_done : (rest ahead : Set) → Ahead own heads rest ahead → (Member ahead → ⊥)
+      → (a b : ℕ) → In rest a → In own b → (z.events.item a).index < (z.events.item b).index → ⊥
+  ahead_done rest ahead p g a b m n l = go (hd.head b n)
+    where
+      go : Some (b + 1) (λ h. In heads h × ((z.events.item h).index ≡ (z.events.item b).index)) → ⊥
+      go (h, lh, (mh, eh)) =
+          let (oa, w) = p.is.says a m in
+          let u = hd.even h a (hd.part h mh) oa (w h mh (λ i. g (h, i))) in
+          omega arith

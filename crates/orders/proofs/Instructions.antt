@@ -122,8 +122,8 @@ module _ (z : Execution) (q : List ℕ) (c : Classes) (here later : Set) (pq : P
         go (inr (inr (inr (inr (inr (inr r)))))) = inl (memory_in b low r.1)
 
   -- the steps of its stores
-  module _ (x more always : Set) (ix : Is x (λ k. In here k × In c.stores k)) (io : Is more (λ k. In c.stores k ⊎ In c.locked k))
-      (ia : Is always (λ k. In held k ⊎ In more k)) where
+  module _ (x more always : Set) (ix : Is x (λ k. In here k × In c.stores k)) (io : Is more (λ k. In held k ⊎ In c.stores k))
+      (ia : Is always (λ k. In more k ⊎ In c.locked k)) where
     store_says : (a b : ℕ) → Steps x always a b → Kept a b
     unfolding KeepsOrder
     store_says a b (m, (n, r)) = ((ix.says a m).0, (n, ⊎_elim (λ h. near ((pq.pairs a b).0 h).2 (ℕ_discrete (z.events.item b).kind 0)) (λ h. far (ia.says b h)) r))
@@ -136,9 +136,9 @@ module _ (z : Execution) (q : List ℕ) (c : Classes) (here later : Set) (pq : P
         near (inl s) (no g) = let h = s.1.0 in inr (inr (inr (inl (kind, omega arith))))
         near (inr s) d = inl s
 
-        far : In held b ⊎ In more b → KeepsOrder z a b
-        far (inl h) = inr (inr (inr (inr (inr (inr (in_held a b (ix.says a m).0 h))))))
-        far (inr h) = ⊎_elim (λ i. inr (inr (inr (inl (kind, (pc.stores.says b i).1))))) (λ i. let e = kind in inr (inr (inr (inr (inr (inl (omega arith, in_locked b i))))))) (io.says b h)
+        far : In more b ⊎ In c.locked b → KeepsOrder z a b
+        far (inl h) = ⊎_elim (λ i. inr (inr (inr (inr (inr (inr (in_held a b (ix.says a m).0 i))))))) (λ i. inr (inr (inr (inl (kind, (pc.stores.says b i).1))))) (io.says b h)
+        far (inr h) = let e = kind in inr (inr (inr (inr (inr (inl (omega arith, in_locked b h))))))
 
     store_has : (a b : ℕ) → (z.events.item a).kind ≡ 1 → Kept a b → Steps x always a b
     unfolding KeepsOrder
@@ -151,11 +151,11 @@ module _ (z : Execution) (q : List ℕ) (c : Classes) (here later : Set) (pq : P
         go (inl r) = let h = r.0 in absurd (omega arith)
         go (inr (inl r)) = let h = r.0 in absurd (omega arith)
         go (inr (inr (inl r))) = let h = r.0 in absurd (omega arith)
-        go (inr (inr (inr (inl r)))) = inr (ia.has b (inr (io.has b (inl (pc.stores.has b (low, r.1))))))
+        go (inr (inr (inr (inl r)))) = inr (ia.has b (inl (io.has b (inr (pc.stores.has b (low, r.1))))))
         go (inr (inr (inr (inr (inl r))))) =
             let h = r.1.0 in inl ((pq.pairs a b).1 (ph.low a m, low, inl (omega arith, (omega arith, r.1.1))))
-        go (inr (inr (inr (inr (inr (inl r)))))) = inr (ia.has b (inr (io.has b (inr (locked_in b low r.1)))))
-        go (inr (inr (inr (inr (inr (inr r)))))) = inr (ia.has b (inl (held_in a b m low r.0 r.1)))
+        go (inr (inr (inr (inr (inr (inl r)))))) = inr (ia.has b (inr (locked_in b low r.1)))
+        go (inr (inr (inr (inr (inr (inr r)))))) = inr (ia.has b (inl (io.has b (inl (held_in a b m low r.0 r.1)))))
 
   -- the steps of its register events
   module _ (x : Set) (ix : Is x (λ k. In here k × (In memory k → ⊥))) where
@@ -188,8 +188,8 @@ module _ (z : Execution) (q : List ℕ) (c : Classes) (here later : Set) (pq : P
 
   -- all three
   pub instruction_adds : (loads always : Set) → Is loads (λ k. In here k × In c.loads k) → Is always (λ k. In memory k ⊎ In c.locked k)
-      → (stores more besides : Set) → Is stores (λ k. In here k × In c.stores k) → Is more (λ k. In c.stores k ⊎ In c.locked k)
-      → Is besides (λ k. In held k ⊎ In more k) → (registers : Set) → Is registers (λ k. In here k × (In memory k → ⊥)) → (t u v w : List ℕ)
+      → (stores more besides : Set) → Is stores (λ k. In here k × In c.stores k) → Is more (λ k. In held k ⊎ In c.stores k)
+      → Is besides (λ k. In more k ⊎ In c.locked k) → (registers : Set) → Is registers (λ k. In here k × (In memory k → ⊥)) → (t u v w : List ℕ)
       → Adds t u (λ a b. In loads a × (In later b × (rel q a b ⊎ In always b))) → Adds u v (λ a b. In stores a × (In later b × (rel q a b ⊎ In besides b)))
       → Adds v w (λ a b. In registers a × (In later b × (rel q a b ⊎ In held b))) → Adds t w (λ a b. In here a × (In later b × KeepsOrder z a b))
   instruction_adds loads always il ia stores more besides is io ib registers ir t u v w d e f =

@@ -34,29 +34,24 @@ module _ (z : Execution) (own : Set) (prog : Program z own) (t : List ℕ) where
   pub run_begin : Running z own own t t
   run_begin = record { part = λ e i. i; after = λ a b i g j. absurd (g i); adds = adds_none t _ (λ a b q. q.1 q.0) }
 
-  module _ (rest : Set) (u : List ℕ) (p : Running z own rest t u) (here less : Set) (ih : Is here (Earliest z rest))
-      (il : Is less (λ k. In rest k × (In here k → ⊥))) where
+  module _ (rest : Set) (u : List ℕ) (p : Running z own rest t u) (here less : Set)
+      (ih : (e : ℕ) → In here e → Earliest z rest e) (il : Is less (λ k. In rest k × (In here k → ⊥))) where
     pub run_rest : Program z rest
     run_rest = program_part z own rest p.part prog
 
     pub run_here : Program z here
-    run_here = program_part z rest here (λ e i. (ih.says e i).0) run_rest
+    run_here = program_part z rest here (λ e i. (ih e i).0) run_rest
 
     pub run_less : Program z less
     run_less = program_part z rest less (λ e i. (il.says e i).0) run_rest
 
     pub run_one : OneInstruction z here
     run_one a b i j =
-        let (m, f) = ih.says a i in
-        let (n, g) = ih.says b j in
+        let (m, f) = ih a i in
+        let (n, g) = ih b j in
         let x = f b n in
         let y = g a m in
         (run_rest.one a b m n, omega arith)
-
-    pub run_fewer : Member rest → value less < value rest
-    run_fewer m =
-        let (e, q) = some_earliest z rest m in
-        subset_less rest less (λ k i. (il.says k i).0) e q.0 (λ i. (il.says e i).1 (ih.has e q))
 
     -- out of what is left: it was before, or it is of this instruction
     out : (a : ℕ) → (In less a → ⊥) → (In rest a → ⊥) ⊎ In here a
@@ -67,64 +62,63 @@ module _ (z : Execution) (own : Set) (prog : Program z own) (t : List ℕ) where
         go (no h) = inl (λ i. g (il.has a (i, h)))
 
     -- this instruction comes before what is left
-    first : (a b : ℕ) → In here a → In less b → (z.events.item a).index < (z.events.item b).index
-    first a b i j = go (dec_lt (z.events.item a).index (z.events.item b).index)
-      where
-        go : Dec ((z.events.item a).index < (z.events.item b).index) → (z.events.item a).index < (z.events.item b).index
-        go (yes l) = l
-        go (no g) =
-            let (m, h) = il.says b j in
-            let (n, f) = ih.says a i in
-            absurd (h (ih.has b (m, λ k o. let x = f k o in omega arith)))
+    module _ (first : (a b : ℕ) → In here a → In less b → (z.events.item a).index < (z.events.item b).index) where
+      after : (a b : ℕ) → In own a → (In less a → ⊥) → In less b → (z.events.item a).index < (z.events.item b).index
+      after a b m g j = ⊎_elim (λ h. p.after a b m h (il.says b j).0) (λ i. first a b i j) (out a g)
 
-    after : (a b : ℕ) → In own a → (In less a → ⊥) → In less b → (z.events.item a).index < (z.events.item b).index
-    after a b m g j = ⊎_elim (λ h. p.after a b m h (il.says b j).0) (λ i. first a b i j) (out a g)
+      module _ (v : List ℕ) (d : Adds u v (λ a b. In here a × (In less b × KeepsOrder z a b))) where
+        there : (a b : ℕ) → (In own a × (In rest a → ⊥) × (In own b × Preserved z a b)) ⊎ (In here a × (In less b × KeepsOrder z a b))
+            → In own a × (In less a → ⊥) × (In own b × Preserved z a b)
+        there a b (inl q) = (q.0, (λ l. q.1 (il.says a l).0), q.2)
+        there a b (inr (i, (j, k))) =
+            let m = p.part a (ih a i).0 in
+            let n = p.part b (il.says b j).0 in
+            (m, (λ l. (il.says a l).1 i), (n, (prog.low a m, prog.low b n, ((prog.one a b m n, first a b i j), k))))
 
-    module _ (v : List ℕ) (d : Adds u v (λ a b. In here a × (In less b × KeepsOrder z a b))) where
-      there : (a b : ℕ) → (In own a × (In rest a → ⊥) × (In own b × Preserved z a b)) ⊎ (In here a × (In less b × KeepsOrder z a b))
-          → In own a × (In less a → ⊥) × (In own b × Preserved z a b)
-      there a b (inl q) = (q.0, (λ l. q.1 (il.says a l).0), q.2)
-      there a b (inr (i, (j, k))) =
-          let m = p.part a (ih.says a i).0 in
-          let n = p.part b (il.says b j).0 in
-          (m, (λ l. (il.says a l).1 i), (n, (prog.low a m, prog.low b n, ((prog.one a b m n, first a b i j), k))))
+        back : (a b : ℕ) → In own a × (In less a → ⊥) × (In own b × Preserved z a b)
+            → (In own a × (In rest a → ⊥) × (In own b × Preserved z a b)) ⊎ (In here a × (In less b × KeepsOrder z a b))
+        back a b (m, g, (n, q)) = ⊎_elim (λ h. inl (m, h, (n, q))) (λ i. inr (i, (left i (dec_in less b), q.2.1))) (out a g)
+          where
+            left : In here a → Dec (In less b) → In less b
+            left i (yes j) = j
+            left i (no h) =
+                let l = q.2.0.1 in
+                absurd (⊎_elim
+                (λ o. let f = p.after b a n o (ih a i).0 in let w : ⊥ = omega arith in w)
+                (λ j. let f = (ih b j).1 a (ih a i).0 in let w : ⊥ = omega arith in w)
+                (out b h))
 
-      back : (a b : ℕ) → In own a × (In less a → ⊥) × (In own b × Preserved z a b)
-          → (In own a × (In rest a → ⊥) × (In own b × Preserved z a b)) ⊎ (In here a × (In less b × KeepsOrder z a b))
-      back a b (m, g, (n, q)) = ⊎_elim (λ h. inl (m, h, (n, q))) (λ i. inr (i, (left i (dec_in less b), q.2.1))) (out a g)
-        where
-          left : In here a → Dec (In less b) → In less b
-          left i (yes j) = j
-          left i (no h) =
-              let l = q.2.0.1 in
-              absurd (⊎_elim
-              (λ o. let f = p.after b a n o (ih.says a i).0 in let w : ⊥ = omega arith in w)
-              (λ j. let f = (ih.says b j).1 a (ih.says a i).0 in let w : ⊥ = omega arith in w)
-              (out b h))
+        pub run_more : Running z own less t v
+        run_more = record {
+          part = λ e i. p.part e (il.says e i).0;
+          after = after;
+          adds = adds_as t v _ _ there back (adds_then t u v _ _ p.adds d);
+        }
 
-      pub run_more : Running z own less t v
-      run_more = record {
-        part = λ e i. p.part e (il.says e i).0;
-        after = after;
-        adds = adds_as t v _ _ there back (adds_then t u v _ _ p.adds d);
-      }
+  pub run_done : (rest : Set) (u : List ℕ) → Running z own rest t u
+      → ((a b : ℕ) → In rest a → In own b → (z.events.item a).index < (z.events.item b).index → ⊥) → Adds t u (λ a b. In own a × (In own b × Preserved z a b))
+  run_done rest u p g = adds_as t u _ _ (λ a b q. (q.0, q.2)) (λ a b (i, (j, q)). (i, (λ m. g a b m j q.2.0.1), (j, q))) p.adds
 
-  pub run_done : (rest : Set) (u : List ℕ) → Running z own rest t u → (Member rest → ⊥) → Adds t u (λ a b. In own a × (In own b × Preserved z a b))
-  run_done rest u p g = adds_as t u _ _ (λ a b q. (q.0, q.2)) (λ a b q. (q.0, (λ i. g (a, i)), q.1)) p.adds
+-- an instruction that is all events of the least index comes before what is left, of which there is less
+module _ (z : Execution) (rest here less : Set) (ih : Is here (Earliest z rest)) (il : Is less (λ k. In rest k × (In here k → ⊥))) where
+  pub earliest_first : (a b : ℕ) → In here a → In less b → (z.events.item a).index < (z.events.item b).index
+  earliest_first a b i j = go (dec_lt (z.events.item a).index (z.events.item b).index)
+    where
+      go : Dec ((z.events.item a).index < (z.events.item b).index) → (z.events.item a).index < (z.events.item b).index
+      go (yes l) = l
+      go (no g) =
+          let (m, h) = il.says b j in
+          let (n, f) = ih.says a i in
+          absurd (h (ih.has b (m, λ k o. let x = f k o in omega arith)))
+
+  pub earliest_fewer : Member rest → value less < value rest
+  earliest_fewer m =
+      let (e, q) = some_earliest z rest m in
+      subset_less rest less (λ k i. (il.says k i).0) e q.0 (λ i. (il.says e i).1 (ih.has e q))
 
 -- ---- the programs, one after the other
 
--- the members of row p are the events of processor p
-pub own_program : (z : Execution) (f : List ℕ) → Sorted z f → (p : ℕ) → p < 4 → (own : Set) → Is own (rel f p) → Program z own
-own_program z f s p l own i = record {
-  low = λ e m. ((s.own p e l).0 (i.says e m)).0;
-  one = λ a b m n. ((s.own p a l).0 (i.says a m)).1 ∙ sym ((s.own p b l).0 (i.says b n)).1;
-}
-
 module _ (z : Execution) (t : List ℕ) where
-  pub programs_none : Adds t t (λ a b. ((z.events.item a).processor < 0) × Preserved z a b)
-  programs_none = adds_none t _ (λ a b q. let l = q.0 in omega arith)
-
   pub programs_more : (f : List ℕ) → Sorted z f → (p : ℕ) → p < 4 → (own : Set) → Is own (rel f p) → (u v : List ℕ)
       → Adds t u (λ a b. ((z.events.item a).processor < p) × Preserved z a b) → Adds u v (λ a b. In own a × (In own b × Preserved z a b))
       → Adds t v (λ a b. ((z.events.item a).processor < p + 1) × Preserved z a b)

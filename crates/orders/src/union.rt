@@ -22,11 +22,8 @@ pub fn put_happens_before(
     requires { Gathered s.now l f.now q.now k.now c × Held (execution_of s.now) t.old }
     ensures { Happens (execution_of s.now) t.new }
 {
-    let stores = l.stores;
-    let lockorder = l.lockorder;
-    let sources = l.sources;
     put_preserved(s, f, q, c, t);
-    put_part_of_order(s, stores, q, rows::union(c.loads, c.stores), t);
-    put_order_of_groups(s, lockorder, k, t);
-    put_sources(s, sources, t);
+    put_part_of_order(s, l.stores, q, c.loads | c.stores, t);
+    put_order_of_groups(s, l.lockorder, k, t);
+    put_sources(s, l.sources, t);
 }

@@ -4,14 +4,13 @@ use mathlib.Core.Path.{◌≡◌, refl, ap₂, subst₂}
 use mathlib.Core.Bool.{Bool, true, false, ◌&&◌, false≢true}
 use mathlib.Core.List.{List, [], ◌∷◌, ◌++◌}
 use lib.Dec.{eqb}
+use Rattle.std.specs.Prelude.{Ok, Err}
 use Rattle.order.proofs.Tests.{by_eq}
 use Rattle.form.specs.Bytes.{num}
-use Rattle.form.specs.Steps.{run, upto}
+use Rattle.form.specs.Steps.{Step, run, upto}
 use Rattle.form.specs.Form.{width, limit, due, place_right, owner_right, event_fields, pair_fields, lock_fields, initial_fields, one_field, fields, entry, entries, block, sections, views}
 use Rattle.form.specs.Place.{start, count, counts, entry_at, view_start}
 use Rattle.form.specs.Whole.{head, tail, body, whole}
-use Rattle.form.specs.declared.Step.{Step}
-use Rattle.form.specs.declared.Step.TheVariants.{Next, Stop}
 use Rattle.form.proofs.Rights.{whole_well}
 use Rattle.form.proofs.Flags.{both}
 use Rattle.record.specs.Execution.{Execution}
@@ -33,8 +32,8 @@ use Rattle.slots.proofs.Rules.{searched}
 -- ---- the examination, computed
 
 abbrev pub computed_by : Step → Operation → Execution → Verdict
-computed_by (Stop f) o z = record { answer = f.answer; evidence = f.section ∷ [] }
-computed_by (Next n) o z = verdict (Formed z) (structure_rules z ++ rules_of o z) (searched o z)
+computed_by (Err f) o z = record { answer = f.answer; evidence = f.section ∷ [] }
+computed_by (Ok n) o z = verdict (Formed z) (structure_rules z ++ rules_of o z) (searched o z)
 
 unfoldable pub computed : List ℕ → Operation → Verdict
 computed s o = computed_by (whole s) o (execution_of s)
@@ -47,8 +46,8 @@ computed_right s o = go (whole s) refl
     z = execution_of s
 
     go : (x : Step) → whole s ≡ x → examined_by x (structure_rules z ++ rules_of o z) (computed_by x o z).answer (computed_by x o z).evidence
-    go (Stop f) e = (refl, refl)
-    go (Next n) e = verdict_right (Formed z) (formed s (whole_well s n e)) _ (searched o z)
+    go (Err f) e = (refl, refl)
+    go (Ok n) e = verdict_right (Formed z) (formed s (whole_well s n e)) _ (searched o z)
 
 -- ---- the table
 

@@ -6,17 +6,17 @@ use mathlib.Core.List.{List, ◌∷◌}
 use native.Mathlib.Omega.{arith}
 use native.Mathlib.Decide.{ℕ_discrete}
 use lib.ListN.{length}
-use Rattle.order.specs.Least.{None, Hit}
+use Rattle.order.specs.Least.{None}
 use Rattle.order.specs.Rule.{Rule, Kept, Judged, Any, rule, entry_rule, cycle_rule}
 use Rattle.order.specs.Evidence.{Given}
-use Rattle.order.proofs.Cycles.{cycle_some}
-use Rattle.order.proofs.Searches.{one_kept, two_kept}
+use Rattle.order.specs.Relation.{Cyclic}
+use Rattle.order.proofs.Searches.{none_hit, one_kept, two_kept}
 use Rattle.order.proofs.Rules.{cycle_kept, cycle_shown, cyclic_as, shown_as}
 use Rattle.rows.specs.Table.{HasRows, on, Adds}
 use Rattle.rows.specs.Members.{In, Is}
 use Rattle.rows.specs.declared.Set.{Set}
 use Rattle.rows.proofs.Members.{is_as}
-use Rattle.cycles.specs.Showing.{Showing}
+use Rattle.cycles.specs.Showing.{Exhibited}
 use Rattle.form.specs.Right.{Right}
 use Rattle.record.specs.Execution.{Execution}
 use Rattle.record.specs.Says.{execution_of}
@@ -29,31 +29,26 @@ use Rattle.structure.specs.Structure.{Joining, Unordered, Eventless, Repeated, p
 use Rattle.record.specs.declared.Layout.{Layout}
 use Rattle.record.specs.declared.Part.{Part}
 use Rattle.record.proofs.Formings.{formed}
-use Rattle.structure.proofs.Partners.{firsts_begin}
 
--- a cycle has an event
 -- no entry breaks rule 13 or 14
-module _ (x : Execution) (g i : ℕ) (e : g ≡ x.locks.size) (l : g ≤ i) where
-  pub kept_14 : Hit g (Repeated x) i → Kept (rule 14 1 (Repeated x))
+module _ (x : Execution) (g : ℕ) (e : g ≡ x.locks.size) where
+  pub kept_14 : None g (Repeated x) → Kept (rule 14 1 (Repeated x))
   unfolding Repeated
-  kept_14 h = one_kept 14 g _ i h l (λ k b. let m = b.0 in omega arith)
+  kept_14 h = one_kept 14 g _ g (none_hit g _ h) (omega arith) (λ k b. let m = b.0 in omega arith)
 
-  pub no_eventless : Hit g (Eventless x) i → None g (Eventless x)
-  no_eventless h k m = h.none k (omega arith)
-
-  pub kept_13 : Hit g (Eventless x) i → Kept (rule 13 1 (Eventless x))
+  pub kept_13 : None g (Eventless x) → Kept (rule 13 1 (Eventless x))
   unfolding Eventless
-  kept_13 h = one_kept 13 g _ i h l (λ k b. let m = b.0 in omega arith)
+  kept_13 h = one_kept 13 g _ g (none_hit g _ h) (omega arith) (λ k b. let m = b.0 in omega arith)
 
 module _ (s : List ℕ) (r : Right s) where
-  pub kept_12 : (i : ℕ) → 64 ≤ i → Hit 64 (λ a. Any 1 (Unordered (execution_of s) a)) i → Kept (rule 12 2 (Unordered (execution_of s)))
+  pub kept_12 : None 64 (λ a. Any 1 (Unordered (execution_of s) a)) → Kept (rule 12 2 (Unordered (execution_of s)))
   unfolding Unordered
-  kept_12 i l h = two_kept 12 64 _ i h l (λ a b q. let n = (formed s r).events.within in let g = q.0 in let k = q.1 in omega arith)
+  kept_12 h = two_kept 12 64 _ 64 (none_hit 64 _ h) (omega arith) (λ a b q. let n = (formed s r).events.within in let g = q.0 in let k = q.1 in omega arith)
 
-  pub kept_10 : (p : Part) → Stands s 3 p → (i : ℕ) → p.count ≤ i → Hit p.count (Joining (execution_of s)) i
+  pub kept_10 : (p : Part) → Stands s 3 p → None p.count (Joining (execution_of s))
       → Kept (entry_rule 10 (Joining (execution_of s)) (pair_of (execution_of s)))
   unfolding Joining
-  kept_10 p q i l h = one_kept 10 p.count _ i h l (λ k b. let e = q.number in let g = b.0 in omega arith)
+  kept_10 p q h = one_kept 10 p.count _ p.count (none_hit p.count _ h) (omega arith) (λ k b. let e = q.number in let g = b.0 in omega arith)
 
   -- the register events, from the events by class
   pub registers_of : (c : Classes) → Classed (execution_of s) c → (both : Set) → Is both (λ k. In c.gets k ⊎ In c.puts k)
@@ -67,11 +62,6 @@ module _ (s : List ℕ) (r : Right s) where
           → In c.gets k ⊎ In c.puts k
       at k q (yes e) = inl (p.gets.has k (q.0, e))
       at k q (no g) = let h = ((formed s r).events.each k q.0).sort in let l = q.1 in inr (p.puts.has k (q.0, omega arith))
-
-  -- who is unordered with one above it is a register event
-  pub first_register : (registers : Set) → Is registers (λ e. (e < (execution_of s).events.size) × Register ((execution_of s).events.item e))
-      → (a : ℕ) → Any 1 (Unordered (execution_of s) a) → In registers a
-  first_register registers i a q = (firsts_begin (execution_of s) registers i).all a q
 
   -- the table of the section 3 pairs, filled from a blank one
   pub held_of : (t u : List ℕ) → HasRows t 64 → Blank t → Adds t u (Causes (execution_of s)) → Held (execution_of s) u
@@ -95,21 +85,13 @@ module _ (s : List ℕ) (r : Right s) where
     causes_rows : (a b : ℕ) → Causes (execution_of s) a b → on n t a b
     causes_rows a b q = ((causes_below a b q).0, (causes_below a b q).1, (held.pairs a b).1 q)
 
-    module _ (before after : List ℕ) (k : ℕ) (w : Showing (on n t) before after k) where
-      pub shown_11 : 0 < k → (qs : List Rule) → Given (Judged (cycle_rule 11 (Causes (execution_of s)) ∷ qs)) before after 11 k
+    module _ (before after : List ℕ) where
+      pub shown_11 : (k : ℕ) → Exhibited (on n t) before after k → (qs : List Rule) → Given (Judged (cycle_rule 11 (Causes (execution_of s)) ∷ qs)) before after 11 k
       unfolding Judged
-      shown_11 h qs = go w
-        where
-          go : Showing (on n t) before after k → Given (Judged (cycle_rule 11 (Causes (execution_of s)) ∷ qs)) before after 11 k
-          go (inl (f, z, u)) = absurd (omega arith)
-          go (inr (l, c, v)) = (l, inl (cycle_shown _ 11 l (shown_as (on n t) _ rows_causes causes_rows l c), refl), v)
+      shown_11 k (l, c, v) qs = (l, inl (cycle_shown _ 11 l (shown_as (on n t) _ rows_causes causes_rows l c), refl), v)
 
-      pub kept_11 : k ≤ 0 → Kept (cycle_rule 11 (Causes (execution_of s))) × (after ≡ before)
-      kept_11 h = go w
-        where
-          go : Showing (on n t) before after k → Kept (cycle_rule 11 (Causes (execution_of s))) × (after ≡ before)
-          go (inl (f, z, u)) = (cycle_kept _ 11 (λ c. f (cyclic_as _ (on n t) causes_rows c)), u)
-          go (inr (l, c, v)) = let p = cycle_some (on n t) l c.cycle in let z = v.0 in absurd (omega arith)
+      pub kept_11 : (Cyclic (on n t) → ⊥) × (after ≡ before) → Kept (cycle_rule 11 (Causes (execution_of s))) × (after ≡ before)
+      kept_11 (f, u) = (cycle_kept _ 11 (λ c. f (cyclic_as _ (on n t) causes_rows c)), u)
 
 -- a judgement of what was left untouched
 pub given_from : (qs : List Rule) (b c d : List ℕ) (a k : ℕ) → c ≡ b → Given (Judged qs) c d a k → Given (Judged qs) b d a k

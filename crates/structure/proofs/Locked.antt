@@ -1,16 +1,15 @@
 -- Rules 13 and 14, from the events of each entry.
-use Prim.Native.Nat.{ℕ, ◌+◌, ◌<◌, ◌≤◌}
+use Prim.Native.Nat.{ℕ, ◌+◌, ◌<◌}
 use mathlib.Core.Path.{◌≡◌, sym, ap₂, ◌∙◌, subst}
 use mathlib.Core.Logic.{◌⊎◌, inl, inr, ⊎_elim}
 use mathlib.Core.List.{List}
 use native.Mathlib.Omega.{arith}
-use Rattle.order.specs.Least.{Some, None, Hit}
+use Rattle.order.specs.Least.{Some, None, Least}
 use Rattle.order.proofs.Numbers.{last_or}
-use Rattle.order.proofs.Searches.{none_yet, none_next, hit_at, hit_not}
+use Rattle.order.proofs.Searches.{none_next}
 use Rattle.rows.specs.Members.{In, Is, Member, Meet}
 use Rattle.rows.specs.Table.{rel}
 use Rattle.rows.specs.declared.Set.{Set}
-use Rattle.rows.proofs.Members.{is_as}
 use Rattle.record.specs.Execution.{Instruction, Execution}
 use Rattle.record.specs.Words.{Belongs, OfLock}
 use Rattle.facts.specs.Facts.{Entered}
@@ -55,22 +54,16 @@ pub record Repeats (x : Execution) (earlier : Set) (i : ℕ) : Type 0 where
   pub is : Is earlier (λ e. Some i (λ j. OfLock x j e))
   pub none : None i (Repeated x)
 
-pub repeats_begin : (x : Execution) (earlier : Set) → Is earlier (λ k. ⊥) → Repeats x earlier 0
-repeats_begin x earlier n = record { is = is_as earlier _ _ (λ k q. absurd q) (λ k q. let l = q.1 in omega arith) n; none = none_yet _ }
-
 module _ (x : Execution) (k : List ℕ) (f : Entered x k) (g i : ℕ) (e : g ≡ x.locks.size) (l : i < g) (here : Set) (h : Is here (rel k i))
     (earlier : Set) (r : Repeats x earlier i) where
   within : i < x.locks.size
   within = omega arith
 
-  pub repeats_found : Meet here earlier → Hit g (Repeated x) i
-  repeats_found m = hit_at _ g i r.none l (repeated_is x k f i within here h earlier r.is m)
+  pub repeats_found : Meet here earlier → (i < g) × Least (Repeated x) i
+  repeats_found m = (l, (repeated_is x k f i within here h earlier r.is m, r.none))
 
   pub repeats_more : None g (Eventless x) → (Meet here earlier → ⊥) → (both : Set) → Is both (λ e. In earlier e ⊎ In here e) → Repeats x both (i + 1)
   repeats_more some apart both u = record {
     is = earlier_next x k f i within here h earlier r.is both u;
     none = none_next _ i r.none (repeated_not x k f i within here h earlier r.is (some i l) apart);
   }
-
-pub repeats_done : (x : Execution) (earlier : Set) (g i : ℕ) → Repeats x earlier i → g ≤ i → Hit g (Repeated x) g
-repeats_done x earlier g i r l = hit_not _ g i r.none l

@@ -35,21 +35,6 @@ module _ (s : List ℕ) (r : Right s) (p : Part) (q : Stands s 3 p) (i : ℕ) (h
   pub pair_low : p.at + 2 * i + 2 ≤ 2346
   pair_low = let a = pair_fits in let b = length_low s r in omega arith
 
-  pub pair_part : 2 * i ≤ 2346
-  pair_part = let a = pair_low in omega arith
-
-  pub pair_sum : p.at + 2 * i ≤ 2346
-  pair_sum = let a = pair_low in omega arith
-
-  pub pair_next : p.at + 2 * i + 1 ≤ 2346
-  pair_next = let a = pair_low in omega arith
-
-  pub pair_one : p.at + 2 * i + 1 ≤ length s
-  pair_one = let a = pair_fits in omega arith
-
-  pub pair_two : p.at + 2 * i + 1 + 1 ≤ length s
-  pair_two = let a = pair_fits in omega arith
-
   pub pair_within : i < (execution_of s).causes.size
   pair_within = subst (λ (x : ℕ). i < x) q.number h
 

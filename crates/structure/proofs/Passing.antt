@@ -4,12 +4,12 @@ use mathlib.Core.Path.{◌≡◌, refl, ap}
 use mathlib.Core.List.{List, [], ◌++◌}
 use native.Mathlib.Omega.{arith}
 use lib.ListN.{length}
+use Rattle.std.specs.Prelude.{Ok, Err}
 use Rattle.order.specs.Rule.{Rule, Judged, AllKept, Numbered}
 use Rattle.order.proofs.Judgements.{judged_zero, judged_behind}
 use Rattle.form.specs.Right.{Right}
 use Rattle.form.specs.Whole.{whole}
-use Rattle.form.specs.declared.Step.{Step}
-use Rattle.form.specs.declared.Step.TheVariants.{Next, Stop}
+use Rattle.form.specs.Steps.{Step}
 use Rattle.form.proofs.Rights.{whole_well}
 use Rattle.record.specs.Execution.{Execution}
 use Rattle.record.specs.Says.{execution_of}
@@ -34,8 +34,8 @@ unfolding examination
 passed s p = go (whole s) refl p
   where
     go : (x : Step) → whole s ≡ x → examined_by x (structure_rules (execution_of s) ++ []) 0 [] → Passed s
-    go (Stop f) e q = let n = ap length q.1 in absurd (omega arith)
-    go (Next n) e q = record {
+    go (Err f) e q = let n = ap length q.1 in absurd (omega arith)
+    go (Ok n) e q = record {
       right = whole_well s n e;
       form = formed s (whole_well s n e);
       structure = kept;

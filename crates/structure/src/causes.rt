@@ -1,5 +1,6 @@
 // Section 3: rule 10, and the pairs as steps of a table.
-ghost use Rattle.order.specs.Least.{Hit};
+ghost use Rattle.std.specs.Prelude.{◌≡◌, ◌<◌};
+ghost use Rattle.order.specs.Least.{Found};
 ghost use Rattle.rows.specs.Table.{HasRows, Adds};
 ghost use Rattle.form.specs.Right.{Right};
 ghost use Rattle.record.specs.Says.{execution_of};
@@ -11,24 +12,29 @@ use form::bytes::num1;
 use record::Part;
 use record::events::{event_of, same_instruction};
 
-// 10: the first pair that joins two instructions, or how many pairs there are.
-pub fn joining(s: &[u8], causes: Part) -> usize
-    requires { Right s.now × Stands s.now 3 causes }
-    ensures { Hit causes.count (Joining (execution_of s.now)) result }
+// The events of pair i.
+pub fn pair(s: &[u8], causes: Part, i: usize) -> (usize, usize)
+    requires { Right s.now × Stands s.now 3 causes × (i < causes.count) }
+    ensures from { result.0 ≡ ((execution_of s.now).causes.item i).from }
+    ensures to { result.1 ≡ ((execution_of s.now).causes.item i).to }
+    ensures low { (result.0 < (execution_of s.now).events.size) × (result.1 < (execution_of s.now).events.size) }
 {
-    let from = causes.at;
-    let m = causes.count;
-    let mut i = 0;
-    while i < m {
-        let at = from + 2 * i;
-        let x = event_of(s, num1(s, at));
-        let y = event_of(s, num1(s, at + 1));
-        if !same_instruction(x, y) {
-            return i;
+    let at = causes.at + 2 * i;
+    (num1(s, at), num1(s, at + 1))
+}
+
+// 10: the first pair that joins two instructions, if one does.
+pub fn joining(s: &[u8], causes: Part) -> Option<usize>
+    requires { Right s.now × Stands s.now 3 causes }
+    ensures { Found causes.count (Joining (execution_of s.now)) result }
+{
+    for i in 0..causes.count {
+        let (from, to) = pair(s, causes, i);
+        if !same_instruction(event_of(s, from), event_of(s, to)) {
+            return Some(i);
         }
-        i += 1;
     }
-    m
+    None
 }
 
 // Adds a step for each pair.
@@ -36,12 +42,8 @@ pub fn put_causes(s: &[u8], causes: Part, t: &mut [u64])
     requires { Right s.now × Stands s.now 3 causes × HasRows t.old 64 }
     ensures { Adds t.old t.new (Causes (execution_of s.now)) }
 {
-    let from = causes.at;
-    let m = causes.count;
-    let mut i = 0;
-    while i < m {
-        let at = from + 2 * i;
-        rows::link(t, num1(s, at), num1(s, at + 1));
-        i += 1;
+    for i in 0..causes.count {
+        let (from, to) = pair(s, causes, i);
+        rows::link(t, from, to);
     }
 }

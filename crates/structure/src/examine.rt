@@ -3,6 +3,7 @@ ghost use Rattle.std.specs.Prelude.{◌≤◌, [], length};
 ghost use Rattle.order.specs.Rule.{Judged};
 ghost use Rattle.order.specs.Evidence.{Given};
 ghost use Rattle.form.specs.Right.{Right};
+ghost use Rattle.record.specs.Refusals.{answer_of, count_of};
 ghost use Rattle.record.specs.Says.{execution_of};
 ghost use Rattle.record.specs.Laid.{Laid};
 ghost use Rattle.structure.specs.Examined.{examination};
@@ -10,15 +11,15 @@ ghost use Rattle.structure.specs.Structure.{structure_rules};
 
 use crate::rules::structure;
 use facts::gather::gather;
-use form::Step;
 use form::whole::whole;
+use record::refusal::Refusal;
 use record::sections::layout;
 use record::{Layout, Verdict};
 
 // The structure rules of a record that has the form.
-fn examine_form(s: &[u8], l: Layout, ev: &mut [u16]) -> Verdict
+fn examine_form(s: &[u8], l: Layout, ev: &mut [u16]) -> Result<(), Refusal>
     requires { Right s.now × Laid s.now l × (65 ≤ length ev.old) }
-    ensures { Given (Judged (structure_rules (execution_of s.now))) ev.old ev.new result.answer result.count }
+    ensures { Given (Judged (structure_rules (execution_of s.now))) ev.old ev.new (answer_of result) (count_of result) }
 {
     let mut f = [0u64; 8];
     let mut q = [0u64; 64];
@@ -34,13 +35,13 @@ pub fn examine(s: &[u8], ev: &mut [u16]) -> Verdict
     ensures { Given (examination s.now []) ev.old ev.new result.answer result.count }
 {
     match whole(s) {
-        Step::Stop(f) => {
+        Err(f) => {
             ev[0] = f.section;
             Verdict {
                 answer: f.answer,
                 count: 1,
             }
         }
-        Step::Next(_) => examine_form(s, layout(s), ev),
+        Ok(_) => examine_form(s, layout(s), ev).into(),
     }
 }

@@ -7,6 +7,7 @@ use native.Mathlib.Omega.{arith}
 use native.Mathlib.Decide.{dec_lt}
 use lib.ListN.{length, take, drop, get_or, length-append, length-drop, get_or-append}
 use lib.Seq.{length-take-le, get_or-take, get_or-drop, drop_at, ext_get_or}
+use Rattle.std.specs.Prelude.{Ok, Err}
 use Rattle.order.specs.Rule.{Rule, Judged, Numbered}
 use Rattle.order.specs.Evidence.{Given}
 use Rattle.order.proofs.Judgements.{judged_unique, judged_zero, judged_more, judged_then}
@@ -17,8 +18,7 @@ use Rattle.rows.proofs.Members.{word, is_unique}
 use Rattle.rows.proofs.Table.{is_row}
 use Rattle.form.specs.Whole.{whole}
 use Rattle.form.specs.declared.Fault.{Fault}
-use Rattle.form.specs.declared.Step.{Step}
-use Rattle.form.specs.declared.Step.TheVariants.{Next, Stop}
+use Rattle.form.specs.Steps.{Step}
 use Rattle.record.specs.Execution.{Execution}
 use Rattle.record.specs.Says.{execution_of}
 use Rattle.structure.specs.Structure.{structure_rules}
@@ -76,11 +76,11 @@ module _ (z : Execution) (rules : List Rule) (u v : List ℕ) (a k : ℕ) (g : G
 
 -- ---- the answers of the order table
 module _ (s : List ℕ) where
-  pub tabled_stop : (f : Fault) → whole s ≡ Stop f → (b : List ℕ) → Tabled s b b f.answer
+  pub tabled_stop : (f : Fault) → whole s ≡ Err f → (b : List ℕ) → Tabled s b b f.answer
   unfolding Tabled
   tabled_stop f e b = rw e (refl, refl)
 
-  module _ (at : ℕ) (e : whole s ≡ Next at) where
+  module _ (at : ℕ) (e : whole s ≡ Ok at) where
     pub tabled_short : (b : List ℕ) → length b < (execution_of s).events.size → Tabled s b b 1
     unfolding Tabled
     tabled_short b l = rw e (inl (l, refl, refl))
@@ -128,8 +128,8 @@ tabled_unique s before x y a b wx wy = go (whole s)
     z = execution_of s
 
     go : (t : Step) → tabled_by t z before x a → tabled_by t z before y b → (a ≡ b) × (x ≡ y)
-    go (Stop f) p q = (p.0 ∙ sym q.0, p.1 ∙ sym q.1)
-    go (Next at) (inl p) (inl q) = (p.1 ∙ sym q.1, p.2 ∙ sym q.2)
-    go (Next at) (inl p) (inr q) = let l = p.0 in let g = q.0 in absurd (omega arith)
-    go (Next at) (inr p) (inl q) = let l = q.0 in let g = p.0 in absurd (omega arith)
-    go (Next at) (inr p) (inr q) = judging_unique z _ before x y a b wx wy p.1 q.1
+    go (Err f) p q = (p.0 ∙ sym q.0, p.1 ∙ sym q.1)
+    go (Ok at) (inl p) (inl q) = (p.1 ∙ sym q.1, p.2 ∙ sym q.2)
+    go (Ok at) (inl p) (inr q) = let l = p.0 in let g = q.0 in absurd (omega arith)
+    go (Ok at) (inr p) (inl q) = let l = q.0 in let g = p.0 in absurd (omega arith)
+    go (Ok at) (inr p) (inr q) = judging_unique z _ before x y a b wx wy p.1 q.1

@@ -1,10 +1,9 @@
 -- What the order table hands back.
-use Rattle.std.specs.Prelude.{ℕ, ◌^◌, ◌<◌, ◌≤◌, ◌≡◌, ◌⊎◌, ◌↔◌, List, ◌++◌, length, drop, get_or}
+use Rattle.std.specs.Prelude.{ℕ, ◌^◌, ◌<◌, ◌≤◌, ◌≡◌, ◌⊎◌, ◌↔◌, List, ◌++◌, length, drop, get_or, Ok, Err}
 use Rattle.order.specs.Rule.{Rule, Judged}
 use Rattle.rows.specs.Table.{rel}
 use Rattle.form.specs.Whole.{whole}
-use Rattle.form.specs.declared.Step.{Step}
-use Rattle.form.specs.declared.Step.TheVariants.{Next, Stop}
+use Rattle.form.specs.Steps.{Step}
 use Rattle.record.specs.Execution.{Execution}
 use Rattle.record.specs.Says.{execution_of}
 use Rattle.structure.specs.Structure.{structure_rules}
@@ -25,8 +24,8 @@ Judging z rules before after a =
 
 -- 2 to 5; then 1, where the table has fewer words than there are events; then the rules 10 to 23
 abbrev pub tabled_by : Step → Execution → List ℕ → List ℕ → ℕ → Type 0
-tabled_by (Stop f) z before after a = (a ≡ f.answer) × (after ≡ before)
-tabled_by (Next at) z before after a =
+tabled_by (Err f) z before after a = (a ≡ f.answer) × (after ≡ before)
+tabled_by (Ok at) z before after a =
     ((length before < z.events.size) × (a ≡ 1) × (after ≡ before)) ⊎ ((z.events.size ≤ length before) × Judging z (structure_rules z ++ witness_rules z) before after a)
 
 unfoldable pub Tabled : List ℕ → List ℕ → List ℕ → ℕ → Type 0

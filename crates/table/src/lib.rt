@@ -6,6 +6,7 @@
 
 ghost use Rattle.std.specs.Prelude.{◌≤◌, ◌++◌, length};
 ghost use Rattle.form.specs.Right.{Right};
+ghost use Rattle.record.specs.Refusals.{answer_of};
 ghost use Rattle.record.specs.Says.{execution_of};
 ghost use Rattle.record.specs.Laid.{Laid};
 ghost use Rattle.facts.specs.Facts.{Gathered};
@@ -16,11 +17,11 @@ ghost use Rattle.table.specs.Tabled.{Judging, Tabled};
 
 use facts::Classes;
 use facts::gather::gather;
-use form::Step;
 use form::whole::whole;
 use orders::union::put_happens_before;
-use record::Layout;
+use record::refusal::Refusal;
 use record::sections::layout;
+use record::{Layout, Verdict};
 use structure::rules::structure;
 
 // The rules 20 to 23; where they are kept, happens-before goes into the lent table. The table t has section 3.
@@ -34,23 +35,20 @@ fn tabled(
     t: &mut [u64],
     ev: &mut [u16],
     out: &mut [u64],
-) -> u16
+) -> Result<(), Refusal>
     requires { Gathered s.now l f.now q.now k.now c × Held (execution_of s.now) t.old × (65 ≤ length ev.old) × ((execution_of s.now).events.size ≤ length out.old) }
-    ensures { Judging (execution_of s.now) (witness_rules (execution_of s.now)) out.old out.new result }
+    ensures { Judging (execution_of s.now) (witness_rules (execution_of s.now)) out.old out.new (answer_of result) }
 {
-    let v = witness::witness(s, l, f, q, c, ev);
-    if v.answer != 0 {
-        return v.answer;
-    }
+    witness::witness(s, l, f, q, c, ev)?;
     put_happens_before(s, l, f, q, k, c, t);
     rows::copy(out, t, l.events);
-    0
+    Ok(())
 }
 
 // The rules 10 to 23 of a record that has the form, in a table of at least as many words as there are events.
-fn tabled_from_ten(s: &[u8], l: Layout, out: &mut [u64]) -> u16
+fn tabled_from_ten(s: &[u8], l: Layout, out: &mut [u64]) -> Result<(), Refusal>
     requires { Right s.now × Laid s.now l × ((execution_of s.now).events.size ≤ length out.old) }
-    ensures { Judging (execution_of s.now) (structure_rules (execution_of s.now) ++ witness_rules (execution_of s.now)) out.old out.new result }
+    ensures { Judging (execution_of s.now) (structure_rules (execution_of s.now) ++ witness_rules (execution_of s.now)) out.old out.new (answer_of result) }
 {
     let mut f = [0u64; 8];
     let mut q = [0u64; 64];
@@ -58,25 +56,22 @@ fn tabled_from_ten(s: &[u8], l: Layout, out: &mut [u64]) -> u16
     let mut t = [0u64; 64];
     let mut ev = [0u16; 65];
     let c = gather(s, l, &mut f, &mut q, &mut k);
-    let v = structure(s, l, &q, &k, c, &mut t, &mut ev);
-    if v.answer != 0 {
-        return v.answer;
-    }
+    structure(s, l, &q, &k, c, &mut t, &mut ev)?;
     tabled(s, l, &f, &q, &k, c, &mut t, &mut ev, out)
 }
 
-// The answer; on 0 word e has bit k set exactly if event e happens directly before event k.
+// The answer, a number as the exported function hands it out; on 0 word e has bit k set exactly if event e happens directly before event k.
 pub fn order_table(s: &[u8], out: &mut [u64]) -> u16
     ensures { Tabled s.now out.old out.new result }
 {
     match whole(s) {
-        Step::Stop(f) => f.answer,
-        Step::Next(_) => {
+        Err(f) => f.answer,
+        Ok(_) => {
             let l = layout(s);
             if out.len() < l.events {
                 return 1;
             }
-            tabled_from_ten(s, l, out)
+            Verdict::from(tabled_from_ten(s, l, out)).answer
         }
     }
 }

@@ -1,14 +1,15 @@
 -- The rules about the witness, rule by rule, as the judgement of those from a number on.
+use Rattle.std.specs.Prelude.{Option}
 use Prim.Native.Nat.{ℕ, ◌+◌, ◌<◌, ◌≤◌}
 use mathlib.Core.Path.{◌≡◌, ap₂, subst}
 use mathlib.Core.Logic.{◌⊎◌, inl, inr, ⊎_elim}
 use mathlib.Core.List.{List, [], ◌∷◌}
 use native.Mathlib.Omega.{arith}
 use lib.ListN.{length, set}
-use Rattle.order.specs.Least.{None, Hit}
+use Rattle.order.specs.Least.{None, Least, Hit, Found}
 use Rattle.order.specs.Rule.{Rule, Kept, Judged, Any, rule, entry_rule}
 use Rattle.order.specs.Evidence.{Given}
-use Rattle.order.proofs.Searches.{none_next, hit_at, hit_not, hit_as, one_kept, two_shown, two_kept}
+use Rattle.order.proofs.Searches.{none_next, found_hit, none_hit, hit_at, hit_not, one_kept, two_shown, two_kept}
 use Rattle.rows.specs.Members.{In, Is}
 use Rattle.rows.specs.Table.{rel}
 use Rattle.rows.specs.declared.Set.{Set}
@@ -27,6 +28,7 @@ use Rattle.facts.specs.Facts.{Sorted, Classed}
 use Rattle.facts.specs.Lists.{list_of, Listed}
 use Rattle.facts.specs.declared.Classes.{Classes}
 use Rattle.facts.proofs.Listings.{listed_more, stores_list, stores_listed, locks_list, locks_listed, view_list, view_listed}
+use Rattle.axioms.proofs.Placings.{found_by}
 use Rattle.model.specs.Model.{Sees}
 use Rattle.model.specs.Rules.{Misplaced, WrongView, WrongStore, WrongLock, WrongSource, source_of}
 
@@ -45,14 +47,15 @@ misplaced_low D l n e f g (inl q) = f q.0
 misplaced_low D l n e f g (inr (inl (d, (i, h, q)))) = let a = g i h in omega arith
 misplaced_low D l n e f g (inr (inr (j, h, (i, k, (p, q))))) = let a = g j h in omega arith
 
--- the search with a set of what is due, in a list that is read in place
-misplaced_hit : (due : Set) (Due : ℕ → Type 0) → Is due Due → (x l : Items ℕ) → x ≡ l → (k : ℕ) → Hit 64 (λ e. Misplaced (In due e) x e) k
-    → Hit 64 (λ e. Misplaced (Due e) l e) k
-misplaced_hit due Due i x l q k h =
-    hit_as _ _ 64 k
+-- what a search finds, with a set of what is due, in a list that is read in place
+misplaced_found : (due : Set) (Due : ℕ → Type 0) → Is due Due → (x l : Items ℕ) → x ≡ l → (r : Option ℕ) → Found 64 (λ e. Misplaced (In due e) x e) r
+    → Found 64 (λ e. Misplaced (Due e) l e) r
+misplaced_found due Due i x l q r h =
+    found_by 64 _ _
     (λ e m. misplaced_as (In due e) (Due e) l e (i.says e) (i.has e) m)
     (λ e m. misplaced_as (Due e) (In due e) l e (i.has e) (i.says e) m)
-    (subst (λ (y : Items ℕ). Hit 64 (λ e. Misplaced (In due e) y e) k) q h)
+    r
+    (subst (λ (y : Items ℕ). Found 64 (λ e. Misplaced (In due e) y e) r) q h)
 
 -- ---- what breaks a rule is below 64
 module _ (z : Execution) (f : Formed z) where
@@ -82,20 +85,16 @@ module _ (z : Execution) (f : Formed z) where
       omega arith
 
   -- ---- rule 20, view after view
-  view_none : (p e : ℕ) → 64 ≤ e → Hit 64 (WrongView z p) e → Any 1 (WrongView z p) → ⊥
-  view_none p e l h (k, w) = let g = view_low p k w in h.none k (omega arith) w
+  pub views_next : (p : ℕ) → None 64 (WrongView z p) → None p (λ k. Any 1 (WrongView z k)) → None (p + 1) (λ k. Any 1 (WrongView z k))
+  views_next p h g = none_next (λ k. Any 1 (WrongView z k)) p g (λ (e, w). h e (view_low p e w) w)
 
-  pub views_next : (p e : ℕ) → 64 ≤ e → Hit 64 (WrongView z p) e → None p (λ k. Any 1 (WrongView z k)) → None (p + 1) (λ k. Any 1 (WrongView z k))
-  views_next p e l h g = none_next (λ k. Any 1 (WrongView z k)) p g (view_none p e l h)
-
-  pub views_found : (p e : ℕ) → e < 64 → Hit 64 (WrongView z p) e → None p (λ k. Any 1 (WrongView z k)) → (qs : List Rule) (b : List ℕ) → 2 ≤ length b
+  pub views_found : (p e : ℕ) → (e < 64) × Least (WrongView z p) e → None p (λ k. Any 1 (WrongView z k)) → (qs : List Rule) (b : List ℕ) → 2 ≤ length b
       → Given (Judged (rule 20 2 (WrongView z) ∷ qs)) b (set (set b 0 p) 1 e) 20 2
-  views_found p e l h g qs b k =
-      let w = h.hit l in
+  views_found p e h g qs b k =
       let m = f.processors in
-      let o = processor_low p e w in
-      let x : Hit 64 (λ j. Any 1 (WrongView z j)) p = hit_at (λ j. Any 1 (WrongView z j)) 64 p g (omega arith) (e, w) in
-      two_shown 20 64 (WrongView z) p x e h (omega arith) (view_low p) qs b k
+      let o = processor_low p e h.1.0 in
+      let x : Hit 64 (λ j. Any 1 (WrongView z j)) p = hit_at (λ j. Any 1 (WrongView z j)) 64 p g (omega arith) (e, h.1.0) in
+      two_shown 20 64 (WrongView z) p x e (found_hit _ _ e h) (omega arith) (view_low p) qs b k
 
   pub kept_20 : (p : ℕ) → z.processors ≤ p → None p (λ k. Any 1 (WrongView z k)) → Kept (rule 20 2 (WrongView z))
   kept_20 p l g =
@@ -103,11 +102,11 @@ module _ (z : Execution) (f : Formed z) where
       two_kept 20 z.processors (WrongView z) z.processors x (omega arith) processor_low
 
   -- ---- rules 21 to 23
-  pub kept_21 : (e : ℕ) → 64 ≤ e → Hit 64 (WrongStore z) e → Kept (rule 21 1 (WrongStore z))
-  kept_21 e l h = one_kept 21 64 _ e h l store_low
+  pub kept_21 : None 64 (WrongStore z) → Kept (rule 21 1 (WrongStore z))
+  kept_21 h = one_kept 21 64 _ 64 (none_hit _ _ h) (omega arith) store_low
 
-  pub kept_22 : (i : ℕ) → 64 ≤ i → Hit 64 (WrongLock z) i → Kept (rule 22 1 (WrongLock z))
-  kept_22 i l h = one_kept 22 64 _ i h l lock_low
+  pub kept_22 : None 64 (WrongLock z) → Kept (rule 22 1 (WrongLock z))
+  kept_22 h = one_kept 22 64 _ 64 (none_hit _ _ h) (omega arith) lock_low
 
 -- ---- the searches in a record
 module _ (s : List ℕ) (r : Right s) where
@@ -115,10 +114,10 @@ module _ (s : List ℕ) (r : Right s) where
     pub stores_ready : Listed s 64 l.stores
     stores_ready = listed_more s _ 64 _ (formed s r).events.within (stores_listed s r l d)
 
-    pub stores_hit : (c : Classes) → Classed (execution_of s) c → (k : ℕ) → Hit 64 (λ e. Misplaced (In c.stores e) (list_of s l.stores) e) k
-        → Hit 64 (WrongStore (execution_of s)) k
+    pub stores_found : (c : Classes) → Classed (execution_of s) c → (k : Option ℕ) → Found 64 (λ e. Misplaced (In c.stores e) (list_of s l.stores) e) k
+        → Found 64 (WrongStore (execution_of s)) k
     unfolding WrongStore
-    stores_hit c q k h = misplaced_hit c.stores _ q.stores _ (execution_of s).stores (stores_list s r l d) k h
+    stores_found c q k h = misplaced_found c.stores _ q.stores _ (execution_of s).stores (stores_list s r l d) k h
 
     pub locks_few : l.locks.count ≤ 64
     locks_few = let n = (formed s r).locks.within in let e = d.locks.number in omega arith
@@ -126,10 +125,10 @@ module _ (s : List ℕ) (r : Right s) where
     pub locks_ready : Listed s 64 l.lockorder
     locks_ready = listed_more s _ 64 _ (let n = (formed s r).locks.within in omega arith) (locks_listed s r l d)
 
-    pub locks_hit : (due : Set) → Is due (λ k. k < l.locks.count) → (k : ℕ) → Hit 64 (λ e. Misplaced (In due e) (list_of s l.lockorder) e) k
-        → Hit 64 (WrongLock (execution_of s)) k
+    pub locks_found : (due : Set) → Is due (λ k. k < l.locks.count) → (k : Option ℕ) → Found 64 (λ e. Misplaced (In due e) (list_of s l.lockorder) e) k
+        → Found 64 (WrongLock (execution_of s)) k
     unfolding WrongLock
-    locks_hit due i k h = misplaced_hit due _ all _ (execution_of s).lock_order (locks_list s r l d) k h
+    locks_found due i k h = misplaced_found due _ all _ (execution_of s).lock_order (locks_list s r l d) k h
       where
         all : Is due (λ j. j < (execution_of s).locks.size)
         all = let e = d.locks.number in is_as due _ _ (λ j q. omega arith) (λ j q. omega arith) i
@@ -138,11 +137,11 @@ module _ (s : List ℕ) (r : Right s) where
     pub view_ready : Listed s 64 v
     view_ready = listed_more s _ 64 _ (formed s r).events.within (view_listed s r p h v w)
 
-    pub view_hit : (f : List ℕ) → Sorted (execution_of s) f → (c : Classes) → Classed (execution_of s) c → (row due : Set) → Is row (rel f p)
-        → Is due (λ k. In row k ⊎ In c.stores k) → (e : ℕ) → Hit 64 (λ e. Misplaced (In due e) (list_of s v) e) e → Hit 64 (WrongView (execution_of s) p) e
+    pub view_found : (f : List ℕ) → Sorted (execution_of s) f → (c : Classes) → Classed (execution_of s) c → (row due : Set) → Is row (rel f p)
+        → Is due (λ k. In row k ⊎ In c.stores k) → (e : Option ℕ) → Found 64 (λ e. Misplaced (In due e) (list_of s v) e) e → Found 64 (WrongView (execution_of s) p) e
     unfolding WrongView
-    view_hit f o c q row due i u e t =
-        hit_as _ _ 64 e (λ k m. (h, m)) (λ k m. m.1) (misplaced_hit due (Sees (execution_of s) p) sees _ ((execution_of s).view p) (view_list s p v w) e t)
+    view_found f o c q row due i u e t =
+        found_by 64 _ _ (λ k m. (h, m)) (λ k m. m.1) e (misplaced_found due (Sees (execution_of s) p) sees _ ((execution_of s).view p) (view_list s p v w) e t)
       where
         low : p < 4
         low = let n = (formed s r).processors in omega arith
@@ -175,10 +174,9 @@ module _ (s : List ℕ) (r : Right s) where
         let a = ((formed s r).sources.each i (omega arith)).1 in
         omega arith
 
-    pub kept_23 : (i : ℕ) → p.count ≤ i → Hit p.count (WrongSource (execution_of s)) i
-        → Kept (entry_rule 23 (WrongSource (execution_of s)) (source_of (execution_of s)))
+    pub kept_23 : None p.count (WrongSource (execution_of s)) → Kept (entry_rule 23 (WrongSource (execution_of s)) (source_of (execution_of s)))
     unfolding WrongSource
-    kept_23 i l h = one_kept 23 p.count _ i h l (λ k b. let e = q.number in let g = b.0 in omega arith)
+    kept_23 h = one_kept 23 p.count _ p.count (none_hit _ _ h) (omega arith) (λ k b. let e = q.number in let g = b.0 in omega arith)
 
 -- the pair of an entry of section 8
 pub source_shown : (z : Execution) (i x y : ℕ) → x ≡ (z.sources.item i).from → y ≡ (z.sources.item i).to → x ∷ y ∷ [] ≡ source_of z i
@@ -190,5 +188,3 @@ processor_here s l d p h = let e = d.processors in omega arith
 
 pub processors_past : (s : List ℕ) (l : Layout) → Laid s l → (p : ℕ) → l.processors ≤ p → (execution_of s).processors ≤ p
 processors_past s l d p h = let e = d.processors in omega arith
-
--- a buffer that was left untouched

@@ -1,4 +1,3 @@
-use Prim.Native.Nat.{◌-◌, ◌≤◌}
 use mathlib.Core.Path.{◌≡◌}
 use Rattle.order.specs.Least.{None}
 use Rattle.order.specs.Rule.{Any}
@@ -8,7 +7,4 @@ use Rattle.model.specs.Rules.{WrongView}
 use Rattle.witness.proofs.witness.Given as goal
 
 abbrev pub invariant-loop-p : goal.invariant-loop-p
-invariant-loop-p l = (l.p ≤ l.m) × (l.at ≡ view_start l.s l.p) × (l.ev ≡ l.initial.ev) × None l.p (λ k. Any 1 (WrongView (execution_of l.s) k))
-
-abbrev pub decreases-loop-p : goal.decreases-loop-p
-decreases-loop-p l = l.m - l.p
+invariant-loop-p l = (l.at ≡ view_start l.s l.p) × (l.ev ≡ l.initial.ev) × None l.p (λ k. Any 1 (WrongView (execution_of l.s) k))

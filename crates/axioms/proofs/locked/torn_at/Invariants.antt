@@ -1,10 +1,6 @@
-use Rattle.rows.proofs.Members.{value}
-use Rattle.axioms.proofs.Seeking.{Seeking}
+use Rattle.rows.proofs.Seeks.{Seeking}
 use Rattle.axioms.proofs.Tears.{Split}
 use Rattle.axioms.proofs.locked.torn_at.Given as goal
 
-abbrev pub invariant-loop-others : goal.invariant-loop-others
-invariant-loop-others l = Seeking (Split l.t l.others l.initial.from) l.initial.from l.from
-
-abbrev pub decreases-loop-others : goal.decreases-loop-others
-decreases-loop-others l = value l.from
+abbrev pub invariant-loop-b : goal.invariant-loop-b
+invariant-loop-b l = Seeking (Split l.t l.others l.initial.b-iterator.rest) l.initial.b-iterator.rest l.b-iterator.rest

@@ -1,14 +1,10 @@
 use Prim.Native.Nat.{ℕ}
 use Rattle.order.specs.Rule.{Any}
-use Rattle.rows.proofs.Members.{value}
 use Rattle.record.specs.Execution.{Execution}
 use Rattle.model.specs.Rules.{Overwritten}
 use Rattle.axioms.specs.Scene.{Sources, Scene}
-use Rattle.axioms.proofs.Seeking.{Seeking}
+use Rattle.rows.proofs.Seeks.{Seeking}
 use Rattle.axioms.proofs.overwritten.overwritten.Given as goal
 
-abbrev pub invariant-loop-c : goal.invariant-loop-c
-invariant-loop-c l = (z : Execution) (p : ℕ) → Scene z p l.t l.q l.c l.seen → Sources z l.u → Seeking (λ e. Any 2 (Overwritten z p e)) l.initial.from l.from
-
-abbrev pub decreases-loop-c : goal.decreases-loop-c
-decreases-loop-c l = value l.from
+abbrev pub invariant-loop-w : goal.invariant-loop-w
+invariant-loop-w l = (z : Execution) (p : ℕ) → Scene z p l.t l.q l.c l.seen → Sources z l.u → Seeking (λ e. Any 2 (Overwritten z p e)) l.initial.w-iterator.rest l.w-iterator.rest

@@ -7,7 +7,7 @@ use Rattle.facts.proofs.Entering.{entry_is, enter_more, enter_done}
 use Rattle.facts.proofs.locks.enter.Goals as goal
 
 pub loop-i-init : goal.loop-i-init
-loop-i-init c = (omega arith, upto_none _ _)
+loop-i-init c = upto_none _ _
 
 pub overflow_mul-at : goal.overflow_mul-at
 overflow_mul-at c = let p = c.requires in
@@ -54,20 +54,8 @@ add-requires c = let p = c.requires in
     let h = lock_within _ p.0 _ p.1 c.loop-i.i c.loop-i-test.true in
     let b = (formed _ p.0).locks.within in
     let r = p.3 in
-    let z = c.loop-i.invariant.1.same in
+    let z = c.loop-i.invariant.same in
     omega arith
-
-pub add-requires-in-loop-i : goal.add-requires-in-loop-i
-add-requires-in-loop-i c = let r = c.requires.3 in
-    let z = c.loop-i.invariant.1.same in
-    let w = c.add.ensures.same in
-    omega arith
-
-pub overflow_add-i : goal.overflow_add-i
-overflow_add-i c = omega arith
-
-pub loop-i-smaller : goal.loop-i-smaller
-loop-i-smaller c = omega arith
 
 pub loop-i-preserved : goal.loop-i-preserved
 loop-i-preserved c = let p = c.requires in
@@ -76,12 +64,9 @@ loop-i-preserved c = let p = c.requires in
     let h = lock_four _ p.0 _ p.1 c.loop-i.i t in
     let f = c.num2.ensures.0 ∙ lock_index _ p.0 _ p.1 c.loop-i.i t in
     let g = entry_is _ _ p.2 _ _ _ (omega arith) e f _ _ c.row.ensures c.indexed-here.ensures in
-    (omega arith, enter_more _ _ _ _ g _ _ _ c.loop-i.invariant.1 c.add.ensures c.add-in-loop-i.ensures)
-
-pub shape_of-k : goal.shape_of-k
-shape_of-k c = c.loop-i.invariant.1.same
+    enter_more _ _ _ _ g _ _ _ c.loop-i.invariant c.add.ensures c.add-in-loop-i.ensures
 
 pub returns : goal.returns
 returns c = let p = c.requires in
     let q = p.1.number in
-    enter_done _ _ _ (omega arith) (formed _ p.0).locks.within _ p.3 p.4 c.loop-i.invariant.1
+    enter_done _ _ _ (omega arith) (formed _ p.0).locks.within _ p.3 p.4 c.loop-i.invariant

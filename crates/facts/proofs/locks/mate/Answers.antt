@@ -6,7 +6,7 @@ use Rattle.facts.proofs.Entering.{mate_more, mate_done}
 use Rattle.facts.proofs.locks.mate.Goals as goal
 
 pub loop-i-init : goal.loop-i-init
-loop-i-init c = (omega arith, upto_none _ _)
+loop-i-init c = upto_none _ _
 
 pub row-here-requires : goal.row-here-requires
 row-here-requires c = let p = c.requires in
@@ -15,26 +15,12 @@ row-here-requires c = let p = c.requires in
     let r = p.2.rows in
     omega arith
 
-pub spread-requires : goal.spread-requires
-spread-requires c = let r = c.requires.3 in
-    let z = c.loop-i.invariant.1.same in
-    omega arith
-
-pub overflow_add-i : goal.overflow_add-i
-overflow_add-i c = omega arith
-
-pub loop-i-smaller : goal.loop-i-smaller
-loop-i-smaller c = omega arith
-
 pub loop-i-preserved : goal.loop-i-preserved
 loop-i-preserved c = let p = c.requires in
     let h = lock_within _ p.0 _ p.1 c.loop-i.i c.loop-i-test.true in
-    (omega arith, mate_more _ _ _ _ p.2 h _ c.row-here.ensures _ _ c.loop-i.invariant.1 c.spread.ensures)
-
-pub shape_of-m : goal.shape_of-m
-shape_of-m c = c.loop-i.invariant.1.same
+    mate_more _ _ _ _ p.2 h _ c.row-here.ensures _ _ c.loop-i.invariant c.spread.ensures
 
 pub returns : goal.returns
 returns c = let p = c.requires in
     let q = p.1.number in
-    mate_done _ _ _ (omega arith) _ p.3 p.4 c.loop-i.invariant.1
+    mate_done _ _ _ (omega arith) _ p.3 p.4 c.loop-i.invariant

@@ -1,4 +1,3 @@
-use Prim.Native.Nat.{◌-◌, ◌≤◌}
 use Rattle.rows.specs.Table.{Adds}
 use Rattle.record.specs.Says.{execution_of}
 use Rattle.facts.proofs.Counting.{Upto}
@@ -6,7 +5,4 @@ use Rattle.facts.proofs.Entering.{Mates}
 use Rattle.facts.proofs.locks.mate.Given as goal
 
 abbrev pub invariant-loop-i : goal.invariant-loop-i
-invariant-loop-i l = (l.i ≤ l.g) × Adds l.initial.m l.m (Upto (Mates (execution_of l.s)) l.i)
-
-abbrev pub decreases-loop-i : goal.decreases-loop-i
-decreases-loop-i l = l.g - l.i
+invariant-loop-i l = Adds l.initial.m l.m (Upto (Mates (execution_of l.s)) l.i)

@@ -5,36 +5,22 @@ use Rattle.facts.proofs.Slotting.{slot_more, slot_done}
 use Rattle.facts.proofs.places.put_slots.Goals as goal
 
 pub loop-e-init : goal.loop-e-init
-loop-e-init c = (omega arith, upto_none _ _)
-
-pub event_of-x-requires : goal.event_of-x-requires
-event_of-x-requires c = let p = c.requires in
-    let q = p.1 in
-    (p.0, omega arith)
+loop-e-init c = upto_none _ _
 
 pub link-requires : goal.link-requires
 link-requires c = let p = c.requires in
     let q = p.1 in
     let t = p.2 in
-    let z = c.loop-e.invariant.1.same in
+    let z = c.loop-e.invariant.same in
     let b = event_low _ p.0 c.loop-e.e (omega arith) in
     (omega arith, omega arith)
 
-pub overflow_add-e : goal.overflow_add-e
-overflow_add-e c = omega arith
-
-pub loop-e-smaller : goal.loop-e-smaller
-loop-e-smaller c = omega arith
-
 pub loop-e-preserved : goal.loop-e-preserved
-loop-e-preserved c = (omega arith, slot_more _ _ _ _ c.event_of-x.ensures _ _ c.loop-e.invariant.1 c.link.ensures)
-
-pub shape_of-t : goal.shape_of-t
-shape_of-t c = c.loop-e.invariant.1.same
+loop-e-preserved c = slot_more _ _ _ _ c.event_of.ensures _ _ c.loop-e.invariant c.link.ensures
 
 pub returns : goal.returns
 returns c = let p = c.requires in
     let q = p.1 in
     let t = p.2 in
-    let z = c.loop-e.invariant.1.same in
-    slot_done _ _ _ (omega arith) _ (omega arith) p.3 c.loop-e.invariant.1
+    let z = c.loop-e.invariant.same in
+    slot_done _ _ _ (omega arith) _ (omega arith) p.3 c.loop-e.invariant

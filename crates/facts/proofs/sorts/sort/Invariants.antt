@@ -1,4 +1,3 @@
-use Prim.Native.Nat.{◌-◌, ◌≤◌}
 use Rattle.rows.specs.Table.{Adds}
 use Rattle.record.specs.Says.{execution_of}
 use Rattle.facts.proofs.Counting.{Upto}
@@ -6,7 +5,4 @@ use Rattle.facts.proofs.Sorting.{Sorts}
 use Rattle.facts.proofs.sorts.sort.Given as goal
 
 abbrev pub invariant-loop-e : goal.invariant-loop-e
-invariant-loop-e l = (l.e ≤ l.n) × Adds l.initial.f l.f (Upto (Sorts (execution_of l.s)) l.e)
-
-abbrev pub decreases-loop-e : goal.decreases-loop-e
-decreases-loop-e l = l.n - l.e
+invariant-loop-e l = Adds l.initial.f l.f (Upto (Sorts (execution_of l.s)) l.e)

@@ -1,43 +1,28 @@
-use mathlib.Core.Path.{ap, ◌∙◌}
-use lib.ListN.{length}
 use native.Mathlib.Omega.{arith}
 use Rattle.record.specs.Says.{execution_of}
-use Rattle.judge.proofs.Closings.{closed_begin, closed_long, closed_shown, closed_more, closed_done}
+use Rattle.judge.proofs.Closings.{Closed, closed_begin, closed_shown, closed_more, closed_done}
+use Rattle.judge.proofs.closer.closer.Goals.{After-seek-2, After-seek-3}
 use Rattle.judge.proofs.closer.closer.Goals as goal
 
-pub loop-i-init : goal.loop-i-init
-loop-i-init c = closed_begin (execution_of c.args.s.now) _
+-- the first rule is kept, then the second
+one : (c : After-seek-2) → Closed (execution_of c.args.s.now) c.args.ev.now c.seek.new.ev 1
+one c = closed_more (execution_of c.args.s.now) _ _ 0 (closed_begin _ _) (omega arith) _ c.in_default.ensures
 
-pub seek-k-requires : goal.seek-k-requires
-seek-k-requires c = (c.requires.0, c.requires.1, c.loop-i-test.true, closed_long _ _ _ _ c.loop-i.invariant c.requires.2, c.requires.3)
+two : (c : After-seek-3) → Closed (execution_of c.args.s.now) c.args.ev.now c.seek-2.new.ev 2
+two c =
+    let x = closed_more (execution_of c.args.s.now) _ _ 0 (closed_begin _ c.args.ev.now) (omega arith) _ c.in_default.ensures in
+    closed_more (execution_of c.args.s.now) _ _ 1 x (omega arith) _ c.in_default-seek.ensures
 
-pub overflow_cast-result : goal.overflow_cast-result
-overflow_cast-result c = let b = c.loop-i-test.true in
-    record { fits = omega arith }
+pub returns-in-Some : goal.returns-in-Some
+returns-in-Some c = closed_shown (execution_of c.args.s.now) _ _ 0 (closed_begin _ _) (omega arith) _ _ c.in-Some.ensures
 
-pub overflow_add-result : goal.overflow_add-result
-overflow_add-result c = let b = c.loop-i-test.true in
-    record { fits = omega arith }
+pub returns-in-Some-seek : goal.returns-in-Some-seek
+returns-in-Some-seek c = closed_shown (execution_of c.args.s.now) _ _ 1 (one (goal.at.returns-in-Some-seek c).After-seek-2) (omega arith) _ _ c.in-Some-seek.ensures
 
-pub shape_of-ev-then-k-gt0 : goal.shape_of-ev-then-k-gt0
-shape_of-ev-then-k-gt0 c = c.seek-k.auto.ev ∙ ap length c.loop-i.invariant.same
-
-pub returns-then-k-gt0 : goal.returns-then-k-gt0
-returns-then-k-gt0 c = closed_shown (execution_of c.args.s.now) _ _ _ c.loop-i.invariant c.loop-i-test.true _ _ c.seek-k.ensures c.if-k-gt0.true
-
-pub overflow_add-i : goal.overflow_add-i
-overflow_add-i c = let b = c.loop-i-test.true in
-    record { fits = omega arith }
-
-pub loop-i-smaller : goal.loop-i-smaller
-loop-i-smaller c = let b = c.loop-i-test.true in
-    omega arith
-
-pub loop-i-preserved : goal.loop-i-preserved
-loop-i-preserved c = closed_more (execution_of c.args.s.now) _ _ _ c.loop-i.invariant c.loop-i-test.true _ _ c.seek-k.ensures c.if-k-gt0.false
-
-pub shape_of-ev : goal.shape_of-ev
-shape_of-ev c = ap length c.loop-i.invariant.same
+pub returns-in-Some-seek-2 : goal.returns-in-Some-seek-2
+returns-in-Some-seek-2 c = closed_shown (execution_of c.args.s.now) _ _ 2 (two (goal.at.returns-in-Some-seek-2 c).After-seek-3) (omega arith) _ _ c.in-Some-seek-2.ensures
 
 pub returns : goal.returns
-returns c = closed_done (execution_of c.args.s.now) _ _ _ c.loop-i.invariant c.loop-i-test.false
+returns c =
+    let x = two (goal.at.returns c).After-seek-3 in
+    closed_done (execution_of c.args.s.now) _ _ 3 (closed_more (execution_of c.args.s.now) _ _ 2 x (omega arith) _ c.in_default-seek-2.ensures) (omega arith)

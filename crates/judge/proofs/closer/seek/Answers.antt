@@ -12,56 +12,43 @@ loop-p-init c = quieted_begin c.args.s.now _ _ _ c.requires.0.ready.laid.views
 pub view_of-view-requires : goal.view_of-view-requires
 view_of-view-requires c = let o = c.requires.0 in
     let x = c.loop-p.invariant in
-    let p = processor_is _ _ _ _ _ _ o _ c.loop-p-test.true in
+    let p = processor_is _ _ _ _ _ _ o c.loop-p.p (omega arith) in
     (o.ready.right, p, x.place)
 
 pub row-requires : goal.row-requires
 row-requires c = let o = c.requires.0 in
-    let p = processor_is _ _ _ _ _ _ o _ c.loop-p-test.true in
+    let p = processor_is _ _ _ _ _ _ o c.loop-p.p (omega arith) in
     let f = c.requires.1.rows in
     let b = processor_low _ _ _ _ _ _ o _ p in
     omega arith
 
-pub union-seen-requires : goal.union-seen-requires
-union-seen-requires c = tt
-
-pub show-k-requires : goal.show-k-requires
-show-k-requires c = let o = c.requires.0 in
+pub show-requires : goal.show-requires
+show-requires c = let o = c.requires.0 in
     let x = c.loop-p.invariant in
-    let p = processor_is _ _ _ _ _ _ o _ c.loop-p-test.true in
-    record { ordered = (o, c.requires.2, quieted_long _ _ _ _ _ _ x c.requires.3); p_bound = (p, c.view_of-view.ensures, sees_is (execution_of c.args.s.now) _ _ c.requires.1 o.ready.classed _ (processor_low _ _ _ _ _ _ o _ p) _ _ c.row.ensures c.union-seen.ensures, c.requires.4 _ p) }
+    let p = processor_is _ _ _ _ _ _ o c.loop-p.p (omega arith) in
+    record { ordered = (o, quieted_long _ _ _ _ _ _ x c.requires.2); p_bound = (p, c.view_of-view.ensures, sees_is (execution_of c.args.s.now) _ _ c.requires.1 o.ready.classed _ (processor_low _ _ _ _ _ _ o _ p) _ _ c.row.ensures c.bitor-seen.ensures, c.requires.3 _ p) }
 
-pub shape_of-ev-then-k-gt0 : goal.shape_of-ev-then-k-gt0
-shape_of-ev-then-k-gt0 c = c.show-k.auto.ev ∙ ap length c.loop-p.invariant.same
+pub shape_of-ev-in-Some : goal.shape_of-ev-in-Some
+shape_of-ev-in-Some c = c.show.auto.ev ∙ ap length c.loop-p.invariant.same
 
-pub returns-then-k-gt0 : goal.returns-then-k-gt0
-returns-then-k-gt0 c = let x = c.loop-p.invariant in
-    quieted_shown c.args.s.now _ _ _ _ _ x c.show-k.new.ev _ c.show-k.ensures c.if-k-gt0.true
+pub returns-in-Some : goal.returns-in-Some
+returns-in-Some c = let x = c.loop-p.invariant in
+    quieted_shown c.args.s.now _ _ _ _ _ x c.show.new.ev _ c.in-Some.ensures
 
 pub overflow_add-at : goal.overflow_add-at
 overflow_add-at c = let o = c.requires.0 in
-    let p = processor_is _ _ _ _ _ _ o _ c.loop-p-test.true in
+    let p = processor_is _ _ _ _ _ _ o c.loop-p.p (omega arith) in
     let b = (view_fits _ _ _ _ _ _ o _ p _ c.view_of-view.ensures).short in
     record { fits = omega arith }
-
-pub overflow_add-p : goal.overflow_add-p
-overflow_add-p c = let o = c.requires.0 in
-    let p = processor_is _ _ _ _ _ _ o _ c.loop-p-test.true in
-    let b = processor_low _ _ _ _ _ _ o _ p in
-    record { fits = omega arith }
-
-pub loop-p-smaller : goal.loop-p-smaller
-loop-p-smaller c = let b = c.loop-p-test.true in
-    omega arith
 
 pub loop-p-preserved : goal.loop-p-preserved
 loop-p-preserved c = let o = c.requires.0 in
     let x = c.loop-p.invariant in
-    let p = processor_is _ _ _ _ _ _ o _ c.loop-p-test.true in
-    quieted_more c.args.s.now _ _ _ _ _ x c.show-k.new.ev _ c.show-k.ensures p _ c.view_of-view.ensures c.if-k-gt0.false
+    let p = processor_is _ _ _ _ _ _ o c.loop-p.p (omega arith) in
+    quieted_more c.args.s.now _ _ _ _ _ x c.show.new.ev c.in_default.ensures p _ c.view_of-view.ensures
 
 pub shape_of-ev : goal.shape_of-ev
 shape_of-ev c = ap length c.loop-p.invariant.same
 
 pub returns : goal.returns
-returns c = quieted_done c.args.s.now _ _ _ _ _ c.loop-p.invariant (processors_end _ _ _ _ _ _ c.requires.0 _ c.loop-p-test.false)
+returns c = quieted_done c.args.s.now _ _ _ _ _ c.loop-p.invariant (processors_end _ _ _ _ _ _ c.requires.0 _ (omega arith))

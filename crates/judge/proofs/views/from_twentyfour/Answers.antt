@@ -12,71 +12,57 @@ loop-p-init c = watched_begin c.args.s.now _ _ c.requires.0.ready.laid.views
 pub view_of-view-requires : goal.view_of-view-requires
 view_of-view-requires c = let o = c.requires.0 in
     let x = c.loop-p.invariant in
-    let p = processor_is _ _ _ _ _ _ o _ c.loop-p-test.true in
+    let p = processor_is _ _ _ _ _ _ o c.loop-p.p (omega arith) in
     (o.ready.right, p, x.place)
 
 pub row-requires : goal.row-requires
 row-requires c = let o = c.requires.0 in
     let x = c.loop-p.invariant in
-    let p = processor_is _ _ _ _ _ _ o _ c.loop-p-test.true in
+    let p = processor_is _ _ _ _ _ _ o c.loop-p.p (omega arith) in
     let f = c.requires.1.rows in
     let b = processor_low _ _ _ _ _ _ o _ p in
     omega arith
 
-pub union-seen-requires : goal.union-seen-requires
-union-seen-requires c = tt
-
-pub look-found-requires : goal.look-found-requires
-look-found-requires c = let o = c.requires.0 in
+pub look-requires : goal.look-requires
+look-requires c = let o = c.requires.0 in
     let x = c.loop-p.invariant in
-    let p = processor_is _ _ _ _ _ _ o _ c.loop-p-test.true in
-    record { ordered = (o, watched_long _ _ _ _ _ _ x c.requires.2); p_bound = (p, c.view_of-view.ensures, sees_is (execution_of c.args.s.now) _ _ c.requires.1 o.ready.classed _ (processor_low _ _ _ _ _ _ o _ p) _ _ c.row.ensures c.union-seen.ensures) }
+    let p = processor_is _ _ _ _ _ _ o c.loop-p.p (omega arith) in
+    record { ordered = (o, watched_long _ _ _ _ _ _ x c.requires.2); p_bound = (p, c.view_of-view.ensures, sees_is (execution_of c.args.s.now) _ _ c.requires.1 o.ready.classed _ (processor_low _ _ _ _ _ _ o _ p) _ _ c.row.ensures c.bitor-seen.ensures) }
 
-pub shape_of-ev-then-found-gt0 : goal.shape_of-ev-then-found-gt0
-shape_of-ev-then-found-gt0 c = c.look-found.auto.ev ∙ ap length c.loop-p.invariant.same
+pub shape_of-ev-in-Cycle : goal.shape_of-ev-in-Cycle
+shape_of-ev-in-Cycle c = c.look.auto.ev ∙ ap length c.loop-p.invariant.same
 
-pub returns-then-found-gt0 : goal.returns-then-found-gt0
-returns-then-found-gt0 c = let o = c.requires.0 in
+pub returns-in-Cycle : goal.returns-in-Cycle
+returns-in-Cycle c = let o = c.requires.0 in
     let x = c.loop-p.invariant in
-    let p = processor_is _ _ _ _ _ _ o _ c.loop-p-test.true in
-    watched_shown c.args.s.now _ _ _ _ _ x c.look-found.new.ev _ c.look-found.ensures c.if-found-gt0.true
+    let p = processor_is _ _ _ _ _ _ o c.loop-p.p (omega arith) in
+    watched_shown c.args.s.now _ _ _ _ _ x c.look.new.ev _ c.in-Cycle.ensures
 
 pub overflow_add-at : goal.overflow_add-at
 overflow_add-at c = let o = c.requires.0 in
     let x = c.loop-p.invariant in
-    let p = processor_is _ _ _ _ _ _ o _ c.loop-p-test.true in
+    let p = processor_is _ _ _ _ _ _ o c.loop-p.p (omega arith) in
     let b = (view_fits _ _ _ _ _ _ o _ p _ c.view_of-view.ensures).short in
     record { fits = omega arith }
-
-pub overflow_add-p : goal.overflow_add-p
-overflow_add-p c = let o = c.requires.0 in
-    let x = c.loop-p.invariant in
-    let p = processor_is _ _ _ _ _ _ o _ c.loop-p-test.true in
-    let b = processor_low _ _ _ _ _ _ o _ p in
-    record { fits = omega arith }
-
-pub loop-p-smaller : goal.loop-p-smaller
-loop-p-smaller c = let b = c.loop-p-test.true in
-    omega arith
 
 pub loop-p-preserved : goal.loop-p-preserved
 loop-p-preserved c = let o = c.requires.0 in
     let x = c.loop-p.invariant in
-    let p = processor_is _ _ _ _ _ _ o _ c.loop-p-test.true in
-    watched_more c.args.s.now _ _ _ _ _ x c.look-found.new.ev _ c.look-found.ensures p _ c.view_of-view.ensures c.if-found-gt0.false
+    let p = processor_is _ _ _ _ _ _ o c.loop-p.p (omega arith) in
+    watched_more c.args.s.now _ _ _ _ _ x c.look.new.ev _ c.in-Acyclic.ensures p _ c.view_of-view.ensures
 
 pub shape_of-ev-then-all : goal.shape_of-ev-then-all
 shape_of-ev-then-all c = ap length c.loop-p.invariant.same
 
 pub returns-then-all : goal.returns-then-all
-returns-then-all c = watched_calm c.args.s.now _ _ _ _ _ c.loop-p.invariant (processors_end _ _ _ _ _ _ c.requires.0 _ c.loop-p-test.false) c.if-all.true
+returns-then-all c = watched_calm c.args.s.now _ _ _ _ _ c.loop-p.invariant (processors_end _ _ _ _ _ _ c.requires.0 _ (omega arith)) c.if-all.true
 
 pub closer-requires : goal.closer-requires
 closer-requires c = let x = c.loop-p.invariant in
-    (c.requires.0, c.requires.1, watched_long _ _ _ _ _ _ x c.requires.2, no_cycle _ _ _ _ _ _ x (processors_end _ _ _ _ _ _ c.requires.0 _ c.loop-p-test.false))
+    (c.requires.0, c.requires.1, watched_long _ _ _ _ _ _ x c.requires.2, no_cycle _ _ _ _ _ _ x (processors_end _ _ _ _ _ _ c.requires.0 _ (omega arith)))
 
 pub shape_of-ev : goal.shape_of-ev
 shape_of-ev c = c.closer.auto.ev ∙ ap length c.loop-p.invariant.same
 
 pub returns : goal.returns
-returns c = watched_closer c.args.s.now _ _ _ _ _ c.loop-p.invariant (processors_end _ _ _ _ _ _ c.requires.0 _ c.loop-p-test.false) c.closer.new.ev _ _ c.closer.ensures
+returns c = watched_closer c.args.s.now _ _ _ _ _ c.loop-p.invariant (processors_end _ _ _ _ _ _ c.requires.0 _ (omega arith)) c.closer.new.ev _ _ c.closer.ensures

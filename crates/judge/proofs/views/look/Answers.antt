@@ -1,5 +1,3 @@
-use mathlib.Core.Path.{refl}
-use mathlib.Core.Logic.{inl, inr}
 use native.Mathlib.Omega.{arith}
 use Rattle.record.proofs.Lengths.{small}
 use Rattle.judge.proofs.Behind.{cycle_none, cycle_some_shown, cycle_few}
@@ -10,8 +8,8 @@ pub arrange-requires : goal.arrange-requires
 arrange-requires c = let p = c.requires in
     arrange_ready _ _ _ _ _ _ p.ordered.0 _ p.p_bound.0 _ p.p_bound.1
 
-pub show-k-requires : goal.show-k-requires
-show-k-requires c = let p = c.requires in
+pub show-requires : goal.show-requires
+show-requires c = let p = c.requires in
     show_ready _ _ _ _ _ _ p.ordered.0 _ p.p_bound.0 _ p.p_bound.1 _ c.arrange.ensures c.args.ev.now p.ordered.1
 
 pub overflow_add-result : goal.overflow_add-result
@@ -21,16 +19,16 @@ overflow_add-result c = let p = c.requires in
     let g = looked_arranged _ _ _ _ _ _ p.ordered.0 _ p.p_bound.0 _ p.p_bound.1 _ c.arrange.ensures in
     let l = p.ordered.1 in
     let n = (arrange_ready _ _ _ _ _ _ p.ordered.0 _ p.p_bound.0 _ p.p_bound.1).1 in
-    let k = cycle_few _ f _ p.p_bound.0 _ g _ e c.args.ev.now _ _ (omega arith) c.show-k.ensures n in
+    let k = cycle_few _ f _ p.p_bound.0 _ g _ e c.args.ev.now _ (omega arith) _ c.in-Some.ensures n in
     small _ (omega arith)
 
-pub returns-then-k-gt0 : goal.returns-then-k-gt0
-returns-then-k-gt0 c = let p = c.requires in
+pub returns-in-Some : goal.returns-in-Some
+returns-in-Some c = let p = c.requires in
     let f = form _ _ _ _ _ _ p.ordered.0 in
     let e = events_are _ _ _ _ _ _ p.ordered.0 in
     let g = looked_arranged _ _ _ _ _ _ p.ordered.0 _ p.p_bound.0 _ p.p_bound.1 _ c.arrange.ensures in
     let l = p.ordered.1 in
-    inl (cycle_some_shown _ f _ p.p_bound.0 _ g _ e c.args.ev.now _ _ (omega arith) c.show-k.ensures c.if-k-gt0.true)
+    cycle_some_shown _ f _ p.p_bound.0 _ g _ e c.args.ev.now _ (omega arith) _ c.in-Some.ensures
 
 pub calm-requires : goal.calm-requires
 calm-requires c = let p = c.requires in
@@ -38,7 +36,7 @@ calm-requires c = let p = c.requires in
     let e = events_are _ _ _ _ _ _ p.ordered.0 in
     let g = looked_arranged _ _ _ _ _ _ p.ordered.0 _ p.p_bound.0 _ p.p_bound.1 _ c.arrange.ensures in
     let l = p.ordered.1 in
-    let n = cycle_none _ f _ p.p_bound.0 _ g _ e c.args.ev.now _ _ (omega arith) c.show-k.ensures c.if-k-gt0.false in
+    let n = cycle_none _ f _ p.p_bound.0 _ g _ e c.args.ev.now _ (omega arith) c.in_default.ensures in
     let o = p.ordered.0 in
     record { right = (o.ready.right, o.ready.laid, o.sourced); sources = (o.sources, o.mated, (_, looked_scene _ _ _ _ _ _ o _ p.p_bound.0 _ p.p_bound.1 _ c.arrange.ensures _ p.p_bound.2 n.0)) }
 
@@ -48,7 +46,7 @@ returns c = let p = c.requires in
     let e = events_are _ _ _ _ _ _ p.ordered.0 in
     let g = looked_arranged _ _ _ _ _ _ p.ordered.0 _ p.p_bound.0 _ p.p_bound.1 _ c.arrange.ensures in
     let l = p.ordered.1 in
-    let n = cycle_none _ f _ p.p_bound.0 _ g _ e c.args.ev.now _ _ (omega arith) c.show-k.ensures c.if-k-gt0.false in
+    let n = cycle_none _ f _ p.p_bound.0 _ g _ e c.args.ev.now _ (omega arith) c.in_default.ensures in
     let o = p.ordered.0 in
     let x = looked_scene _ _ _ _ _ _ o _ p.p_bound.0 _ p.p_bound.1 _ c.arrange.ensures _ p.p_bound.2 n.0 in
-    inr (refl, n.1, n.0, λ e. c.calm.ensures _ x e)
+    (n.1, n.0, λ e. c.calm.ensures _ x e)

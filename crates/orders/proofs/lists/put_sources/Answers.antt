@@ -5,16 +5,7 @@ use Rattle.orders.proofs.Sourcing.{source_low, reader_low, sources_all}
 use Rattle.orders.proofs.lists.put_sources.Goals as goal
 
 pub loop-i-init : goal.loop-i-init
-loop-i-init c = let a = c.args in
-    (omega arith, upto_none (PairStep (execution_of a.s.now).sources) _)
-
-pub source_of-requires : goal.source_of-requires
-source_of-requires c = let p = c.requires in
-    (p.0, p.1, c.loop-i-test.true)
-
-pub reader_of-requires : goal.reader_of-requires
-reader_of-requires c = let p = c.requires in
-    (p.0, p.1, c.loop-i-test.true)
+loop-i-init c = upto_none (PairStep (execution_of c.args.s.now).sources) _
 
 pub link-requires : goal.link-requires
 link-requires c = let p = c.requires in
@@ -22,29 +13,14 @@ link-requires c = let p = c.requires in
     let b = reader_low _ p.0 _ p.1 c.loop-i.i c.loop-i-test.true in
     let x = c.source_of.ensures in
     let y = c.reader_of.ensures in
-    let z = c.loop-i.invariant.1.same in
+    let z = c.loop-i.invariant.same in
     let t = p.2 in
     (omega arith, omega arith)
 
-pub overflow_add-i : goal.overflow_add-i
-overflow_add-i c = omega arith
-
-pub loop-i-smaller : goal.loop-i-smaller
-loop-i-smaller c = omega arith
-
 pub loop-i-preserved : goal.loop-i-preserved
-loop-i-preserved c = let a = c.args in (
-  omega arith,
-  pairs_more (execution_of a.s.now).sources _ _ _ _
-      c.loop-i.invariant.1 _ _
-      c.source_of.ensures
-      c.reader_of.ensures
-      c.link.ensures,
-)
-
-pub shape_of-t : goal.shape_of-t
-shape_of-t c = c.loop-i.invariant.1.same
+loop-i-preserved c =
+    pairs_more (execution_of c.args.s.now).sources _ _ _ _ c.loop-i.invariant _ _ c.source_of.ensures c.reader_of.ensures c.link.ensures
 
 pub returns : goal.returns
 returns c = let q = c.requires.1.number in
-    sources_all (execution_of c.args.s.now) _ (omega arith) _ _ c.loop-i.invariant.1
+    sources_all (execution_of c.args.s.now) _ (omega arith) _ _ c.loop-i.invariant

@@ -4,12 +4,7 @@ use Rattle.orders.proofs.Sourcing.{reader_low, ends_none, ends_more, sourced_all
 use Rattle.orders.proofs.lists.sourced.Goals as goal
 
 pub loop-i-init : goal.loop-i-init
-loop-i-init c = let a = c.args in
-    (omega arith, ends_none (execution_of a.s.now).sources _ c.none-r.ensures)
-
-pub reader_of-requires : goal.reader_of-requires
-reader_of-requires c = let p = c.requires in
-    (p.0, p.1, c.loop-i-test.true)
+loop-i-init c = ends_none (execution_of c.args.s.now).sources _ c.none-r.ensures
 
 pub one-requires : goal.one-requires
 one-requires c = let p = c.requires in
@@ -17,18 +12,9 @@ one-requires c = let p = c.requires in
     let y = c.reader_of.ensures in
     omega arith
 
-pub overflow_add-i : goal.overflow_add-i
-overflow_add-i c = omega arith
-
-pub loop-i-smaller : goal.loop-i-smaller
-loop-i-smaller c = omega arith
-
 pub loop-i-preserved : goal.loop-i-preserved
-loop-i-preserved c = let a = c.args in (
-  omega arith,
-  ends_more (execution_of a.s.now).sources _ _ c.loop-i.invariant.1 _ c.reader_of.ensures _ _ c.one.ensures c.union-r.ensures,
-)
+loop-i-preserved c = ends_more (execution_of c.args.s.now).sources _ _ c.loop-i.invariant _ c.reader_of.ensures _ _ c.one.ensures c.bitor-r.ensures
 
 pub returns : goal.returns
 returns c = let q = c.requires.1.number in
-    sourced_all (execution_of c.args.s.now) _ (omega arith) _ c.loop-i.invariant.1
+    sourced_all (execution_of c.args.s.now) _ (omega arith) _ c.loop-i.invariant

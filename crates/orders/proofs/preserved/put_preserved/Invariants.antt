@@ -1,11 +1,8 @@
-use Prim.Native.Nat.{◌-◌, ◌<◌, ◌≤◌}
+use Prim.Native.Nat.{◌<◌}
 use Rattle.rows.specs.Table.{Adds}
 use Rattle.record.specs.Says.{execution_of}
 use Rattle.model.specs.Model.{Preserved}
 use Rattle.orders.proofs.preserved.put_preserved.Given as goal
 
 abbrev pub invariant-loop-p : goal.invariant-loop-p
-invariant-loop-p l = (l.p ≤ 4) × Adds l.initial.t l.t (λ a b. (((execution_of l.s).events.item a).processor < l.p) × Preserved (execution_of l.s) a b)
-
-abbrev pub decreases-loop-p : goal.decreases-loop-p
-decreases-loop-p l = 4 - l.p
+invariant-loop-p l = Adds l.initial.t l.t (λ a b. (((execution_of l.s).events.item a).processor < l.p) × Preserved (execution_of l.s) a b)

@@ -42,5 +42,5 @@ returns c = let p = c.requires in
     let t = c.put_preserved.ensures.same in
     let f = formed _ r in
     happens _ _ _ _ _ _ p.1 c.put_preserved.ensures
-    (stores_adds _ f _ g.ready.placed _ g.ready.classed _ c.union.ensures _ (stores_list _ r _ g.ready.laid) _ _ c.put_part_of_order.ensures)
+    (stores_adds _ f _ g.ready.placed _ g.ready.classed _ c.bitor.ensures _ (stores_list _ r _ g.ready.laid) _ _ c.put_part_of_order.ensures)
     (locks_adds _ f _ g.entered _ (locks_list _ r _ g.ready.laid) _ _ c.put_order_of_groups.ensures) c.put_sources.ensures

@@ -1,11 +1,7 @@
-use Prim.Native.Nat.{◌-◌, ◌≤◌}
 use Rattle.rows.specs.Table.{Adds}
 use Rattle.record.specs.Says.{execution_of}
 use Rattle.facts.proofs.Counting.{Upto, PairStep}
 use Rattle.structure.proofs.causes.put_causes.Given as goal
 
 abbrev pub invariant-loop-i : goal.invariant-loop-i
-invariant-loop-i l = (l.i ≤ l.m) × Adds l.initial.t l.t (Upto (PairStep (execution_of l.s).causes) l.i)
-
-abbrev pub decreases-loop-i : goal.decreases-loop-i
-decreases-loop-i l = l.m - l.i
+invariant-loop-i l = Adds l.initial.t l.t (Upto (PairStep (execution_of l.s).causes) l.i)

@@ -1,4 +1,3 @@
-use Prim.Native.Nat.{◌-◌, ◌≤◌}
 use mathlib.Core.Path.{◌≡◌}
 use Rattle.order.specs.Least.{None}
 use Rattle.record.specs.Execution.{Execution}
@@ -8,7 +7,4 @@ use Rattle.structure.proofs.Locked.{Repeats}
 use Rattle.structure.proofs.locks.repeated.Given as goal
 
 abbrev pub invariant-loop-i : goal.invariant-loop-i
-invariant-loop-i l = (l.i ≤ l.g) × ((x : Execution) → Entered x l.k → l.g ≡ x.locks.size → None l.g (Eventless x) → Repeats x l.earlier l.i)
-
-abbrev pub decreases-loop-i : goal.decreases-loop-i
-decreases-loop-i l = l.g - l.i
+invariant-loop-i l = (x : Execution) → Entered x l.k → l.g ≡ x.locks.size → None l.g (Eventless x) → Repeats x l.earlier l.i

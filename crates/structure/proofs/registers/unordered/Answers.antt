@@ -1,29 +1,20 @@
-use Rattle.rows.proofs.Members.{first_in, taken_less}
+use Rattle.rows.proofs.Seeks.{seek_begin, seek_next, seek_found, seek_none}
 use Rattle.record.proofs.Formings.{formed}
-use Rattle.structure.proofs.Partners.{firsts_begin, firsts_found, firsts_more, firsts_done}
+use Rattle.structure.proofs.Partners.{first_register, partner_decided}
 use Rattle.structure.proofs.registers.unordered.Goals as goal
 
-pub loop-from-init : goal.loop-from-init
-loop-from-init c = firsts_begin _ _ c.requires.is
+pub loop-a-init : goal.loop-a-init
+loop-a-init c = rw c.into_iter-a-iterator.ensures.into_iter_gives (seek_begin _ _ (first_register _ _ c.requires.is))
 
-pub unordered_with-requires : goal.unordered_with-requires
-unordered_with-requires c = let p = c.requires in
-    let m = first_in _ (c.any.ensures.holds c.loop-from-test.true) _ c.first-a.ensures in
-    record { right = p.right; a_bound = p.is.says _ (c.loop-from.invariant.part _ m) }
+pub returns-then-is_some : goal.returns-then-is_some
+returns-then-is_some c =
+    let d = partner_decided _ (formed _ c.requires.right.0).events.within _ _ c.unordered_with.ensures in
+    seek_found _ _ _ c.loop-a.invariant _ c.in-Some.ensures.steps.0 (d.holds (rw c.is_some.ensures at c.if-is_some.true))
 
-pub returns-then-unordered_with-lt64 : goal.returns-then-unordered_with-lt64
-returns-then-unordered_with-lt64 c = let p = c.requires in
-    firsts_found _ (formed _ p.right.0).events.within _ _ c.loop-from.invariant _ _ c.unordered_with.ensures c.first-a.ensures c.if-unordered_with-lt64.true
-
-pub without-from-requires : goal.without-from-requires
-without-from-requires c = first_in _ (c.any.ensures.holds c.loop-from-test.true) _ c.first-a.ensures
-
-pub loop-from-smaller : goal.loop-from-smaller
-loop-from-smaller c = taken_less _ (c.any.ensures.holds c.loop-from-test.true) _ c.first-a.ensures _ c.without-from.ensures
-
-pub loop-from-preserved : goal.loop-from-preserved
-loop-from-preserved c = let p = c.requires in
-    firsts_more _ (formed _ p.right.0).events.within _ _ c.loop-from.invariant _ _ c.unordered_with.ensures c.if-unordered_with-lt64.false _ c.without-from.ensures
+pub loop-a-preserved : goal.loop-a-preserved
+loop-a-preserved c =
+    let d = partner_decided _ (formed _ c.requires.right.0).events.within _ _ c.unordered_with.ensures in
+    seek_next _ _ _ c.loop-a.invariant _ (d.fails (rw c.is_some.ensures at c.if-is_some.false)) _ c.in-Some.ensures.steps.1
 
 pub returns : goal.returns
-returns c = firsts_done _ _ _ c.loop-from.invariant (c.any.ensures.fails c.loop-from-test.false)
+returns c = seek_none _ _ _ c.loop-a.invariant 64 c.in-None.ensures.steps

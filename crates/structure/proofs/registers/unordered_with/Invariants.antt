@@ -1,10 +1,11 @@
-use Rattle.rows.proofs.Members.{value}
+use Rattle.rows.proofs.Seeks.{Seeking}
 use Rattle.record.specs.Says.{execution_of}
+use Rattle.structure.specs.Structure.{Unordered}
 use Rattle.structure.proofs.Partners.{Partners}
 use Rattle.structure.proofs.registers.unordered_with.Given as goal
 
-abbrev pub invariant-loop-x : goal.invariant-loop-x
-invariant-loop-x l = Partners (execution_of l.s) l.a l.from
-
-abbrev pub decreases-loop-x : goal.decreases-loop-x
-decreases-loop-x l = value l.from
+abbrev pub invariant-loop-b : goal.invariant-loop-b
+invariant-loop-b l = record {
+  near : Partners (execution_of l.s) l.a l.initial.b-iterator.rest;
+  left : Seeking (Unordered (execution_of l.s) l.a) l.initial.b-iterator.rest l.b-iterator.rest;
+}
