@@ -2,16 +2,12 @@
 use Prim.Native.Nat.{ℕ, zero, suc, ◌+◌, ◌*◌, ◌<◌, ◌≤◌}
 use mathlib.Core.Path.{◌≡◌, refl, sym, ap, ◌∙◌}
 use mathlib.Core.Logic.{inl, inr}
-use mathlib.Core.Bool.{◌||◌, ◌&&◌}
 use mathlib.Core.List.{List, [], ◌∷◌, ◌++◌}
 use native.Mathlib.Omega.{arith}
-use lib.Dec.{eqb, leb}
 use lib.ListN.{length, take, get_or}
 use lib.Seq.{length-take-le}
 use Rattle.order.specs.Least.{Counted}
-use Rattle.order.specs.Decides.{Decides}
 use Rattle.order.proofs.Numbers.{counted_some}
-use Rattle.order.proofs.Tests.{by_or, by_and, by_eq, by_le}
 use Rattle.rows.specs.Table.{HasRows, rel}
 use Rattle.rows.proofs.Table.{dec_rel}
 use Rattle.lent.specs.Put.{PutTo}
@@ -27,9 +23,6 @@ use Rattle.listing.specs.Listing.{verdict, event_lines, Ordered, Listed}
 use Rattle.listing.proofs.Texts.{to_then}
 use Rattle.listing.proofs.Lines.{verdict_length}
 use Rattle.listing.proofs.Telling.{ordered_right, table_filled, evidence_front, counts_of}
-
-pub ordered_test : (a : ℕ) → Decides (eqb a 0 || (leb 24 a && leb a 27)) (Ordered a)
-ordered_test a = by_or _ _ (by_eq a 0) (by_and _ _ (by_le 24 a) (by_le a 27))
 
 -- ---- the counts of the rows of a table
 
@@ -48,12 +41,6 @@ each_of P f (suc n) = go (each_of (λ j. P (suc j)) (λ j. f (suc j)) n)
 row_counts : (t : List ℕ) (n : ℕ) → (cs : List ℕ) × (length cs ≡ n) × ((e : ℕ) → e < n → Counted 64 (rel t e) (get_or cs e 0))
 row_counts t n = each_of (λ e r. Counted 64 (rel t e) r) (λ e. counted_some 64 (rel t e) (dec_rel t e)) n
 
--- ---- the check has left its evidence in a buffer of 65 entries
-module _ (s v w : List ℕ) (a k : ℕ) (lv : length v ≡ 65) (lw : length w ≡ 65) where
-  pub evidence_told : Checked s v w a k → (k ≤ 65) × Answers s a (take k w)
-  evidence_told (inl c) = let l = c.0 in absurd (omega arith)
-  evidence_told (inr (l, (e, j, h))) = let (f, i) = evidence_front e v w k lv lw h in (f, rw i j)
-
 -- the verdict of s stands at the front of a buffer, and ends at z
 pub record Told (s b m : List ℕ) (a z : ℕ) : Type 0 where
   pub e : List ℕ
@@ -62,10 +49,16 @@ pub record Told (s b m : List ℕ) (a z : ℕ) : Type 0 where
   pub long : 2048 ≤ length b
   pub put : PutTo b 0 (verdict a e) m z
 
-pub verdict_told : (s w b m : List ℕ) (a k z : ℕ) → length w ≡ 65 → (k ≤ 65) × Answers s a (take k w)
-    → 2048 ≤ length b → PutTo b 0 (verdict a (take k w)) m z → Told s b m a z
-verdict_told s w b m a k z lw (l, j) long put =
-    record { e = take k w; answers = j; few = omega (arith, length-take-le k w (omega arith)); long = long; put = put }
+-- the check has left its evidence in a buffer of 65 entries, and the verdict is written
+module _ (s v w : List ℕ) (a k : ℕ) (lv : length v ≡ 65) (lw : length w ≡ 65) where
+  evidence_told : Checked s v w a k → (k ≤ 65) × Answers s a (take k w)
+  evidence_told (inl c) = let l = c.0 in absurd (omega arith)
+  evidence_told (inr (l, (e, j, h))) = let (f, i) = evidence_front e v w k lv lw h in (f, rw i j)
+
+  pub verdict_told : Checked s v w a k → (b m : List ℕ) (z : ℕ) → 2048 ≤ length b → PutTo b 0 (verdict a (take k w)) m z → Told s b m a z
+  verdict_told h b m z long put =
+      let (l, j) = evidence_told h in
+      record { e = take k w; answers = j; few = omega (arith, length-take-le k w (omega arith)); long = long; put = put }
 
 module _ (s b m : List ℕ) (a at : ℕ) (v : Told s b m a at) where
   abbrev front : List ℕ

@@ -6,6 +6,7 @@ use mathlib.Core.List.{List, ◌++◌}
 use native.Mathlib.Omega.{arith}
 use lib.ListN.{length, take, drop, get_or, length-append}
 use lib.Seq.{take_at, ext_get_or}
+use Rattle.std.specs.Prelude.{Ok, Err}
 use Rattle.order.specs.Least.{Counted}
 use Rattle.order.specs.Rule.{AllKept}
 use Rattle.order.specs.Evidence.{Written}
@@ -14,8 +15,7 @@ use Rattle.order.proofs.Numbers.{counted_as, counted_unique, counted_low}
 use Rattle.rows.specs.Table.{rel}
 use Rattle.form.specs.Right.{Right}
 use Rattle.form.specs.Whole.{whole}
-use Rattle.form.specs.declared.Step.{Step}
-use Rattle.form.specs.declared.Step.TheVariants.{Next, Stop}
+use Rattle.form.specs.Steps.{Step}
 use Rattle.form.proofs.Answers.{stop_answer}
 use Rattle.form.proofs.Rights.{whole_well}
 use Rattle.record.specs.Execution.{Execution}
@@ -47,17 +47,17 @@ module _ (s : List ℕ) (a : ℕ) (e : List ℕ) (ans : Answers s a e) (o : Orde
   z = execution_of s
 
   -- reading goes well, and the rules 10 to 23 are kept
-  read_kept : (at : ℕ) × (whole s ≡ Next at) × AllKept (structure_rules z ++ witness_rules z)
+  read_kept : (at : ℕ) × (whole s ≡ Ok at) × AllKept (structure_rules z ++ witness_rules z)
   unfolding examination
   read_kept = go (whole s) refl ans
     where
       go : (x : Step) → whole s ≡ x → examined_by x (structure_rules z ++ check_rules z) a e
-          → (at : ℕ) × (whole s ≡ Next at) × AllKept (structure_rules z ++ witness_rules z)
-      go (Stop f) w j =
+          → (at : ℕ) × (whole s ≡ Ok at) × AllKept (structure_rules z ++ witness_rules z)
+      go (Err f) w j =
           let (l, h) = stop_answer s f w in
           let n = j.0 in
           absurd (omega (arith, ordered_apart a o))
-      go (Next at) w j = (at, w, judged_kept (structure_rules z ++ witness_rules z) (order_rules z) a e (ordered_other z a o) j)
+      go (Ok at) w j = (at, w, judged_kept (structure_rules z ++ witness_rules z) (order_rules z) a e (ordered_other z a o) j)
 
   pub ordered_right : Right s
   ordered_right = whole_well s read_kept.0 read_kept.1
@@ -66,7 +66,7 @@ module _ (s : List ℕ) (a : ℕ) (e : List ℕ) (ans : Answers s a e) (o : Orde
   unfolding Tabled
   table_filled before after b l t = let (at, w, k) = read_kept in go at k (rw w at t)
     where
-      go : (at : ℕ) → AllKept (structure_rules z ++ witness_rules z) → tabled_by (Next at) z before after b → Filled z before after
+      go : (at : ℕ) → AllKept (structure_rules z ++ witness_rules z) → tabled_by (Ok at) z before after b → Filled z before after
       go at k (inl (n, p, q)) = let m = (formed s ordered_right).events.within in absurd (omega arith)
       go at k (inr (n, (d, j, inl f))) = f.1
       go at k (inr (n, (d, j, inr f))) = absurd (f.0 (zero_judged (structure_rules z ++ witness_rules z) b d k j).0)

@@ -7,13 +7,13 @@ use mathlib.Core.List.{List, [], ◌∷◌, ◌++◌}
 use native.Mathlib.Omega.{arith}
 use native.Mathlib.Decide.{dec_lt}
 use lib.Dec.{eqb}
+use Rattle.std.specs.Prelude.{Ok, Err}
 use Rattle.order.specs.Decides.{Decides}
 use Rattle.order.specs.Rule.{Rule, Shows, Judged}
 use Rattle.order.proofs.Tests.{by_and, by_or, by_eq, by_no, by_flag}
 use Rattle.form.specs.Whole.{whole}
 use Rattle.form.specs.declared.Fault.{Fault}
-use Rattle.form.specs.declared.Step.{Step}
-use Rattle.form.specs.declared.Step.TheVariants.{Next, Stop}
+use Rattle.form.specs.Steps.{Step}
 use Rattle.form.proofs.Answers.{stop_answer}
 use Rattle.record.specs.Says.{execution_of}
 use Rattle.structure.specs.Structure.{structure_rules}
@@ -79,7 +79,7 @@ among_right a (b ∷ l) m x = inr (among_right a l m x)
 abbrev pub judgements : List Rule → List ℕ
 judgements qs = (2 ∷ 3 ∷ 4 ∷ 5 ∷ []) ++ 0 ∷ numbers qs
 
-pub stopped_among : (s : List ℕ) (f : Fault) (a : ℕ) (qs : List Rule) → whole s ≡ Stop f → a ≡ f.answer → Among (judgements qs) a
+pub stopped_among : (s : List ℕ) (f : Fault) (a : ℕ) (qs : List Rule) → whole s ≡ Err f → a ≡ f.answer → Among (judgements qs) a
 stopped_among s f a qs e h =
     let (l, u) = stop_answer s f e in among_left a (2 ∷ 3 ∷ 4 ∷ 5 ∷ []) (0 ∷ numbers qs) (form_among a (omega arith) (omega arith))
 
@@ -95,8 +95,8 @@ examined_among s rules a e x = go (whole s) refl x
     qs = structure_rules (execution_of s) ++ rules
 
     go : (y : Step) → whole s ≡ y → examined_by y qs a e → Among (judgements qs) a
-    go (Stop f) h p = stopped_among s f a qs h p.0
-    go (Next z) h p = judged_listed qs a e p
+    go (Err f) h p = stopped_among s f a qs h p.0
+    go (Ok z) h p = judged_listed qs a e p
 
 -- a judgement by the number of one rule is by that rule
 pub judged_rule : (qs : List Rule) (q : Rule) (rs : List Rule) (a : ℕ) (e : List ℕ)

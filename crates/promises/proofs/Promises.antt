@@ -9,13 +9,13 @@ use native.Mathlib.Omega.{arith}
 use native.Mathlib.Decide.{dec_lt}
 use lib.ListN.{length, take, drop}
 use lib.Seq.{take-append_seam}
+use Rattle.std.specs.Prelude.{Ok, Err}
 use Rattle.order.specs.Rule.{Rule, AllKept, Judged}
 use Rattle.order.specs.Evidence.{Written}
 use Rattle.order.proofs.Judgements.{judged_zero, zero_judged}
 use Rattle.order.proofs.Rules.{cycles_evidence}
 use Rattle.form.specs.Whole.{whole}
-use Rattle.form.specs.declared.Step.{Step}
-use Rattle.form.specs.declared.Step.TheVariants.{Next, Stop}
+use Rattle.form.specs.Steps.{Step}
 use Rattle.form.proofs.Answers.{Fair, fair_whole}
 use Rattle.record.specs.Says.{execution_of}
 use Rattle.record.specs.View.{answer_by, view_answer}
@@ -65,9 +65,9 @@ tabled_among s before after a t = go (whole s) refl t
     qs = structure_rules (execution_of s) ++ witness_rules (execution_of s)
 
     go : (x : Step) → whole s ≡ x → tabled_by x (execution_of s) before after a → Among (1 ∷ judgements qs) a
-    go (Stop f) h p = inr (stopped_among s f a qs h p.0)
-    go (Next z) h (inl p) = inl p.1
-    go (Next z) h (inr (l, (e, j, w))) = inr (judged_listed qs a e j)
+    go (Err f) h p = inr (stopped_among s f a qs h p.0)
+    go (Ok z) h (inl p) = inl p.1
+    go (Ok z) h (inr (l, (e, j, w))) = inr (judged_listed qs a e j)
 
 read_off_among : (s l before after : List ℕ) (a k : ℕ) → ReadOff s l before after a k
     → Among (possible s (sequence_rules (execution_of s) l)) a
@@ -93,17 +93,17 @@ answered_short s rules before after a k (inr p) h = let l = p.0 in absurd (omega
 
 -- what reading answers
 view_among : (x : Step) (known : Bool) → Fair x → Among reading_answers (answer_by x known)
-view_among (Next z) true h = inl refl
-view_among (Next z) false h = inr (inr (inr (inl refl)))
-view_among (Stop f) known h = inr (form_among f.answer h.0 h.1)
+view_among (Ok z) true h = inl refl
+view_among (Ok z) false h = inr (inr (inr (inl refl)))
+view_among (Err f) known h = inr (form_among f.answer h.0 h.1)
 
 view_listed : (s : List ℕ) (p : ℕ) → Among reading_answers (view_answer s p)
 unfolding view_answer
 view_listed s p = view_among (whole s) _ (fair_whole s)
 
 opening_among : (x : Step) → Fair x → Among reading_answers (answer_of x)
-opening_among (Next z) h = inl refl
-opening_among (Stop f) h = inr (form_among f.answer h.0 h.1)
+opening_among (Ok z) h = inl refl
+opening_among (Err f) h = inr (form_among f.answer h.0 h.1)
 
 opening_listed : (s : List ℕ) → Among reading_answers (open_answer s)
 unfolding open_answer

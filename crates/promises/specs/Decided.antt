@@ -6,8 +6,7 @@ use Rattle.judge.specs.Checked.{Checked}
 use Rattle.table.specs.Tabled.{Tabled, Words}
 use Rattle.replay.specs.Replayed.{Replayed}
 use Rattle.readoff.specs.Written.{ReadOff}
-use Rattle.reader.specs.Entries.{item_at, open_answer, open_part}
-use Rattle.reader.specs.declared.Item.{Item}
+use Rattle.reader.specs.Entries.{Item, item_at, open_answer, open_part}
 use Rattle.listing.specs.Listing.{Listed}
 
 pub record Decided : Type 0 where
@@ -16,7 +15,7 @@ pub record Decided : Type 0 where
   pub read_off : (s l before x y : List ℕ) (a b k m : ℕ) → ReadOff s l before x a k → ReadOff s l before y b m → (a ≡ b) × (k ≡ m) × (x ≡ y)
   -- a lent table has 64-bit words: its definition speaks of bits
   pub order_table : (s before x y : List ℕ) (a b : ℕ) → Words x → Words y → Tabled s before x a → Tabled s before y b → (a ≡ b) × (x ≡ y)
-  -- the contracts of the view question and of the reader are equations
+  -- of the view question and of the reader, the answer and the part, and the entry: their contracts say these by equations
   pub view : (s : List ℕ) (p a b : ℕ) (x y : List ℕ) → a ≡ view_answer s p → b ≡ view_answer s p → x ≡ view_part s p → y ≡ view_part s p → (a ≡ b) × (x ≡ y)
   pub opening : (s x y : List ℕ) (a b : ℕ) → (a ≡ open_answer s) × (x ≡ open_part s) → (b ≡ open_answer s) × (y ≡ open_part s) → (a ≡ b) × (x ≡ y)
   pub entry : (s : List ℕ) (at : ℕ) (i j : Item) → i ≡ item_at s at → j ≡ item_at s at → i ≡ j

@@ -2,14 +2,13 @@
 -- and the count k and leave `after` in the buffer; `Replayed`, `ReadOff`, `Tabled` likewise. That each function hands back such a result,
 -- for all bytes, lists and buffers and with nothing asked beforehand, is its contract; that there is one such result alone is `Decided`;
 -- what such results are worth is said here.
-use Rattle.std.specs.Prelude.{ℕ, ◌<◌, ◌≤◌, ◌≡◌, ◌⊎◌, ◌↔◌, List, [], ◌∷◌, ◌++◌, length, take}
+use Rattle.std.specs.Prelude.{ℕ, ◌<◌, ◌≤◌, ◌≡◌, ◌⊎◌, ◌↔◌, List, [], ◌∷◌, ◌++◌, length, take, Ok}
 use Rattle.order.specs.Least.{Some, None}
 use Rattle.order.specs.Relation.{Cyclic}
 use Rattle.order.specs.Shown.{Shown}
 use Rattle.order.specs.Rule.{Kept, AllKept, Judged, rule}
 use Rattle.order.specs.Evidence.{Written}
 use Rattle.form.specs.Whole.{whole}
-use Rattle.form.specs.declared.Step.TheVariants.{Next}
 use Rattle.record.specs.Says.{execution_of}
 use Rattle.record.specs.View.{view_answer}
 use Rattle.structure.specs.Structure.{Unordered}
@@ -85,7 +84,7 @@ Judges s a e =
 pub record Demand2 : Type 1 where
   -- a record that has the form passes exactly if it says a well-formed event structure of the HOL specification, and keeps rule 12, which
   -- asks for a section 3 pair where HOL asks for a chain
-  pub well_formed : (s : List ℕ) (end : ℕ) → whole s ≡ Next end
+  pub well_formed : (s : List ℕ) (end : ℕ) → whole s ≡ Ok end
       → Passes s ↔ (wfes (structure_of (execution_of s)) × Kept (rule 12 2 (Unordered (execution_of s))))
   -- 0 exactly to the valid executions of the HOL specification
   pub valid : (s : List ℕ) (a : ℕ) (e : List ℕ) → Passes s → Judges s a e → (a ≡ 0) ↔ Valid (execution_of s)

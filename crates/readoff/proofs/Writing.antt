@@ -7,6 +7,8 @@ use mathlib.Core.List.{List, [], ◌∷◌, ◌++◌, append_assoc}
 use native.Mathlib.Omega.{arith}
 use native.Mathlib.Nat.{zero-add}
 use lib.ListN.{length, take, length-append}
+use lib.Seq.{length-take-le, get_or-take, ext_get_or}
+use Rattle.std.specs.Prelude.{Ok, Err, EachIndex}
 use Rattle.order.specs.Least.{Some}
 use Rattle.order.specs.Rule.{Rule, Judged, AllKept}
 use Rattle.order.specs.Evidence.{Written, Given}
@@ -18,7 +20,6 @@ use Rattle.form.specs.Place.{start}
 use Rattle.form.specs.Right.{Right}
 use Rattle.form.specs.Whole.{whole}
 use Rattle.form.specs.declared.Fault.{Fault}
-use Rattle.form.specs.declared.Step.TheVariants.{Next, Stop}
 use Rattle.form.proofs.Answers.{stop_answer}
 use Rattle.record.specs.Execution.{Execution}
 use Rattle.record.specs.Formed.{Formed}
@@ -87,17 +88,21 @@ module _ {s : List ℕ} {y : Layout} {f q k : List ℕ} {c : Classes} {b o l : L
   long : y.events ≡ length l
   long = laid.events ∙ sym (sequence_length z l (once_kept z l h.kept))
 
-  pub few : y.events ≤ 64
-  few = let e = laid.events in let m = form.events.within in omega arith
+  -- the list is the first bytes of b
+  pub front_long : y.events ≡ length (take y.events b)
+  front_long = let e = long in let f = h.bytes.fits in sym (length-take-le y.events b (omega arith))
 
-  low : Narrowed 64 l b
-  low =
-      let m = form.events.within in
-      let w = h.bytes in
-      record { fits = w.fits; low = λ i a. let x = w.low i a in omega arith; same = w.same }
+  pub listed : take y.events b ≡ l
+  listed =
+      let e = long in
+      let t = front_long in
+      ext_get_or 0 (take y.events b) l (omega arith) (λ i a. get_or-take y.events b i 0 (omega arith) ∙ h.bytes.same i (omega arith))
 
-  pub numbers : (i : List ℕ) × Narrowed 64 i b × (y.events ≡ length i)
-  numbers = (l, low, long)
+  pub few : length l ≤ 64
+  few = let e = long in let d = laid.events in let m = form.events.within in omega arith
+
+  pub numbers : EachIndex l (λ i. (steps l).item i < 64)
+  numbers i a = let x = h.bytes.low i a in let m = form.events.within in omega arith
 
   pub few_locks : y.locks.count ≤ 16
   few_locks = let e = laid.locks.number in let m = form.locks.within in omega arith
@@ -105,12 +110,11 @@ module _ {s : List ℕ} {y : Layout} {f q k : List ℕ} {c : Classes} {b o l : L
   pub few_processors : y.processors ≤ 4
   few_processors = let e = laid.processors in let m = form.processors in omega arith
 
-  picks : Picks c.stores l y.events (λ e. is_store (event z e))
+  picks : Picks c.stores l (λ e. is_store (event z e))
   picks i a =
       let e = (steps l).item i in
       let is = classed.stores in
-      let m = long in
-      by_as _ (λ q. is.has e (h.bytes.low i (omega arith), q)) (λ q. (is.says e q).1) (store_decides (event z e))
+      by_as _ (λ q. is.has e (h.bytes.low i a, q)) (λ q. (is.says e q).1) (store_decides (event z e))
 
   -- what stands before section 6, before 7, 8 and 9
   abbrev till6 : List ℕ
@@ -157,63 +161,63 @@ module _ {s : List ℕ} {y : Layout} {f q k : List ℕ} {c : Classes} {b o l : L
   room : (m w : List ℕ) (to k n : ℕ) → PutTo o 0 w m to → length w ≤ k → k + n ≤ 2346 → to + n ≤ length m
   room m w to k n (u, d) e g = let r = h.free in omega (arith, put_length o m w 0 u)
 
-  pub front_fits : (at6 ≤ length s) × (at6 ≤ length o)
+  pub front_fits : length (take at6 s) ≤ length o
   front_fits =
       let e = place in
       let m = (right.section 5 (omega arith) (omega arith)).fits in
       let u = h.free in
-      (omega arith, omega (arith, front_low s right))
+      let t = length-take-le at6 s (omega arith) in
+      omega (arith, front_low s right)
 
   module _ (m6 : List ℕ) (p6 : Put o 0 (take at6 s) m6) where
     put6 : PutTo o 0 till6 m6 at6
     put6 = (rw place at p6, omega (arith, prefix_length s [] right))
 
-    pub room6 : at6 + 2 + y.events ≤ length m6
+    pub room6 : at6 + 2 + length l ≤ length m6
     room6 = let r = room m6 till6 at6 1866 66 put6 low6 (omega arith) in let n = few in omega arith
 
     module _
         (m7 : List ℕ) (at7 : ℕ)
-        (p7 : (i : List ℕ) (test : ℕ → Bool) → Narrowed 64 i b → y.events ≡ length i → Picks c.stores i y.events test
-        → PutTo m6 at6 (counted (picked test i)) m7 at7) where
+        (p7 : (test : ℕ → Bool) → Picks c.stores l test → PutTo m6 at6 (counted (picked test l)) m7 at7) where
       put7 : PutTo o 0 till7 m7 at7
-      put7 = behind o m6 m7 till6 (counted (stores_of z l)) at6 at7 put6 (p7 l _ low long picks)
+      put7 = behind o m6 m7 till6 (counted (stores_of z l)) at6 at7 put6 (p7 _ picks)
 
-      pub room7 : at7 + 2 + y.events ≤ length m7
+      pub room7 : at7 + 2 + length l ≤ length m7
       room7 = let r = room m7 till7 at7 1932 66 put7 low7 (omega arith) in let n = few in omega arith
 
       module _
           (m8 : List ℕ) (at8 : ℕ)
-          (p8 : (x : Execution) (i : List ℕ) → Entered x k → y.locks.count ≡ x.locks.size
+          (p8 : (x : Execution) → Entered x k → y.locks.count ≡ x.locks.size
           → Is c.locked (λ e. Some x.locks.size (λ j. OfLock x j e)) → ((j : ℕ) → Repeated x j → ⊥)
-          → Narrowed x.events.size i b → y.events ≡ length i → PutTo m7 at7 (counted (locks_from x [] i)) m8 at8) where
+          → EachIndex l (λ i. (steps l).item i < x.events.size) → PutTo m7 at7 (counted (locks_from x [] l)) m8 at8) where
         put8 : PutTo o 0 till8 m8 at8
         put8 =
             behind o m7 m8 till7 (counted (locks_from z [] l)) at7 at8 put7
-            (p8 z l h.facts.entered laid.locks.number classed.locked (λ j r. h.structure.1.1.1.1.0 (j ∷ []) r) h.bytes long)
+            (p8 z h.facts.entered laid.locks.number classed.locked (λ j r. h.structure.1.1.1.1.0 (j ∷ []) r) h.bytes.low)
 
-        pub room8 : at8 + 2 + 2 * y.events ≤ length m8
+        pub room8 : at8 + 2 + 2 * length l ≤ length m8
         room8 = let r = room m8 till8 at8 1950 130 put8 low8 (omega arith) in let n = few in omega arith
 
         module _
             (m9 : List ℕ) (at9 : ℕ)
-            (p9 : (x : Execution) (i : List ℕ) → Placed x q → Classed x c → Narrowed x.events.size i b → y.events ≡ length i
-            → PutTo m8 at8 (two_bytes (length (sources_from x [] i)) ++ pairs (sources_from x [] i)) m9 at9) where
+            (p9 : (x : Execution) → Placed x q → Classed x c → EachIndex l (λ i. (steps l).item i < x.events.size)
+            → PutTo m8 at8 (two_bytes (length (sources_from x [] l)) ++ pairs (sources_from x [] l)) m9 at9) where
           put9 : PutTo o 0 till9 m9 at9
           put9 =
               behind o m8 m9 till8 sources at8 at9 put8
-              (p9 z l h.facts.ready.placed classed h.bytes long)
+              (p9 z h.facts.ready.placed classed h.bytes.low)
 
           pub room9 : at9 + 2 + y.processors * 66 ≤ length m9
           room9 = let r = room m9 till9 at9 2080 266 put9 low9 (omega arith) in let n = few_processors in omega arith
 
           pub written : (m : List ℕ) (to : ℕ)
-              → ((x : Execution) (i : List ℕ) → Sorted x f → Is c.stores (λ e. (e < x.events.size) × ((x.events.item e).kind ≡ 1))
-              → Narrowed x.events.size i b → y.events ≡ length i → PutTo m9 at9 (two_bytes y.processors ++ views x i y.processors) m to)
+              → ((x : Execution) → Sorted x f → Is c.stores (λ e. (e < x.events.size) × ((x.events.item e).kind ≡ 1))
+              → EachIndex l (λ i. (steps l).item i < x.events.size) → PutTo m9 at9 (two_bytes y.processors ++ views x l y.processors) m to)
               → Written (bytes_of s l) o m to
           written m to p =
               let v = two_bytes z.processors ++ views z l z.processors in
               let e = laid.processors in
-              let r = behind o m9 m till9 v at9 to put9 (rw e at (p z l h.facts.sorted classed.stores h.bytes long)) in
+              let r = behind o m9 m till9 v at9 to put9 (rw e at (p z h.facts.sorted classed.stores h.bytes.low)) in
               let n : to ≡ length (till9 ++ v) = r.1 ∙ zero-add _ in
               rw (n, sym all) (put_written o m (till9 ++ v) r.0)
 
@@ -248,10 +252,10 @@ module _ (s u v : List ℕ) (n k : ℕ) (g : Given (Judged (structure_rules (exe
       off_done d o m to w = (q.0, subst (λ (i : ℕ). Judged (structure ++ sequence) i q.0) d judged, inl (refl, w))
 
 module _ (s l o : List ℕ) (free : 2346 ≤ length o) where
-  pub off_stop : (f : Fault) → whole s ≡ Stop f → ReadOff s l o o f.answer 0
+  pub off_stop : (f : Fault) → whole s ≡ Err f → ReadOff s l o o f.answer 0
   unfolding examination
   off_stop f e = let h = stop_answer s f e in inr (free, (f.section ∷ [], rw e (refl, refl), inr (λ z. omega arith, refl, refl)))
 
-  pub off_next : (at : ℕ) → whole s ≡ Next at → (m : List ℕ) (a k : ℕ) → Off s l o m a k → ReadOff s l o m a k
+  pub off_next : (at : ℕ) → whole s ≡ Ok at → (m : List ℕ) (a k : ℕ) → Off s l o m a k → ReadOff s l o m a k
   unfolding examination
   off_next at e m a k (d, j, w) = inr (free, (d, rw e j, w))

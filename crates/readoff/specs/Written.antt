@@ -1,10 +1,16 @@
 -- What the read-off hands back.
-use Rattle.std.specs.Prelude.{ℕ, ◌<◌, ◌≤◌, ◌≡◌, ◌⊎◌, List, length}
+use Rattle.std.specs.Prelude.{ℕ, ◌<◌, ◌≤◌, ◌≡◌, ◌⊎◌, List, length, Result, Ok, Err}
 use Rattle.order.specs.Evidence.{Written}
 use Rattle.structure.specs.Examined.{examination}
 use Rattle.record.specs.Says.{execution_of}
+use Rattle.record.specs.declared.refusal.Refusal.{Refusal}
 use Rattle.sequences.specs.Sequence.{sequence_rules}
 use Rattle.readoff.specs.Bytes.{bytes_of}
+
+-- how many bytes are written: none on a refusal
+abbrev pub written_of : Result ℕ Refusal → ℕ
+written_of (Ok k) = k
+written_of (Err r) = 0
 
 -- on 0 the record that is read off and its length, and not one byte more; on a refusal no byte
 abbrev pub WrittenOff : List ℕ → List ℕ → List ℕ → List ℕ → ℕ → ℕ → Type 0

@@ -3,6 +3,7 @@ ghost use Rattle.std.specs.Prelude.{ℕ, ◌≤◌, List, ◌++◌, length};
 ghost use Rattle.order.specs.Rule.{Judged, AllKept};
 ghost use Rattle.order.specs.Evidence.{Written};
 ghost use Rattle.form.specs.Right.{Right};
+ghost use Rattle.record.specs.Refusals.{answer_of};
 ghost use Rattle.record.specs.Says.{execution_of};
 ghost use Rattle.record.specs.Laid.{Laid};
 ghost use Rattle.facts.specs.Facts.{Gathered};
@@ -10,14 +11,14 @@ ghost use Rattle.structure.specs.Structure.{structure_rules};
 ghost use Rattle.sequences.specs.Sequence.{sequence_rules};
 ghost use Rattle.replay.specs.Known.{Narrowed};
 ghost use Rattle.readoff.specs.Bytes.{bytes_of};
-ghost use Rattle.readoff.specs.Written.{WrittenOff, ReadOff};
+ghost use Rattle.readoff.specs.Written.{WrittenOff, written_of, ReadOff};
 
 use crate::bytes::put_front;
 use crate::sections::{put_locks, put_some, put_sources, put_views};
 use facts::Classes;
 use facts::gather::gather;
-use form::Step;
 use form::whole::whole;
+use record::refusal::Refusal;
 use record::sections::layout;
 use record::{Layout, Verdict};
 use replay::sequence::sequence;
@@ -38,21 +39,19 @@ fn write(
     requires by_index { (i : List ℕ) × AllKept (sequence_rules (execution_of s.now) i) × Narrowed (execution_of s.now).events.size i b.now }
     ensures { (i : List ℕ) → AllKept (sequence_rules (execution_of s.now) i) → Narrowed (execution_of s.now).events.size i b.now → Written (bytes_of s.now i) out.old out.new result }
 {
-    let n = l.events;
-    let stores = l.stores;
-    let locks = l.locks;
-    let front = stores.at - 2;
-    put_front(out, s, front);
-    let six = put_some(b, n, c.stores, out, front);
-    let seven = put_locks(b, n, k, locks.count, c.locked, out, six);
-    let eight = put_sources(b, n, q, c, out, seven);
-    put_views(b, n, f, c.stores, l.processors, out, eight)
+    let list = &b[..l.events];
+    let front = l.stores.at - 2;
+    put_front(out, &s[..front]);
+    let six = put_some(list, c.stores, out, front);
+    let seven = put_locks(list, k, l.locks.count, c.locked, out, six);
+    let eight = put_sources(list, q, c, out, seven);
+    put_views(list, f, c.stores, l.processors, out, eight)
 }
 
 // The rules from 10 to 31 of a record that has the form, and the record that is read off.
-fn from_ten(s: &[u8], l: Layout, list: &[u16], out: &mut [u8]) -> Verdict
+fn from_ten(s: &[u8], l: Layout, list: &[u16], out: &mut [u8]) -> Result<usize, Refusal>
     requires { Right s.now × Laid s.now l × (2346 ≤ length out.old) }
-    ensures { (e : List ℕ) × Judged (structure_rules (execution_of s.now) ++ sequence_rules (execution_of s.now) list.now) result.answer e × WrittenOff s.now list.now out.old out.new result.answer result.count }
+    ensures { (e : List ℕ) × Judged (structure_rules (execution_of s.now) ++ sequence_rules (execution_of s.now) list.now) (answer_of result) e × WrittenOff s.now list.now out.old out.new (answer_of result) (written_of result) }
 {
     let mut f = [0u64; 8];
     let mut q = [0u64; 64];
@@ -60,26 +59,11 @@ fn from_ten(s: &[u8], l: Layout, list: &[u16], out: &mut [u8]) -> Verdict
     let mut t = [0u64; 64];
     let mut ev = [0u16; 65];
     let c = gather(s, l, &mut f, &mut q, &mut k);
-    let v = structure(s, l, &q, &k, c, &mut t, &mut ev);
-    if v.answer != 0 {
-        return Verdict {
-            answer: v.answer,
-            count: 0,
-        };
-    }
+    structure(s, l, &q, &k, c, &mut t, &mut ev)?;
     let mut b = [0u8; 64];
     let mut u = [0u64; 64];
-    let w = sequence(s, l, &k, c, list, &mut b, &mut u, &mut ev);
-    if w.answer != 0 {
-        return Verdict {
-            answer: w.answer,
-            count: 0,
-        };
-    }
-    Verdict {
-        answer: 0,
-        count: write(s, l, &f, &q, &k, c, &b, out),
-    }
+    sequence(s, l, &k, c, list, &mut b, &mut u, &mut ev)?;
+    Ok(write(s, l, &f, &q, &k, c, &b, out))
 }
 
 // The answer, and the length of the record that is written at the front of the lent buffer; 1 where that has fewer than 2,346 bytes.
@@ -93,10 +77,16 @@ pub fn read_off(s: &[u8], list: &[u16], out: &mut [u8]) -> Verdict
         };
     }
     match whole(s) {
-        Step::Stop(f) => Verdict {
+        Err(f) => Verdict {
             answer: f.answer,
             count: 0,
         },
-        Step::Next(_) => from_ten(s, layout(s), list, out),
+        Ok(_) => match from_ten(s, layout(s), list, out) {
+            Err(refusal) => Verdict {
+                answer: refusal.answer,
+                count: 0,
+            },
+            Ok(count) => Verdict { answer: 0, count },
+        },
     }
 }

@@ -1,17 +1,14 @@
 -- A list of numbers below n becomes the first bytes of a buffer, and says there what it said.
 use Prim.Native.Nat.{ℕ, ◌+◌, ◌<◌, ◌≤◌}
-use mathlib.Core.Path.{◌≡◌, refl, sym, ap, ◌∙◌}
-use mathlib.Core.Logic.{◌⊎◌, ◌↔◌, inl, inr}
+use mathlib.Core.Path.{◌≡◌, sym, ap, ◌∙◌}
+use mathlib.Core.Logic.{◌↔◌, inl, inr}
 use mathlib.Core.List.{List}
 use native.Mathlib.Omega.{arith}
-use native.Mathlib.Decide.{dec_lt}
 use native.Mathlib.Nat.{zero-add}
-use lib.ListN.{length, get_or, set, length-set}
-use lib.Seq.{get_or-set_same, get_or-set_other}
-use Rattle.order.specs.Least.{None, Hit}
+use lib.ListN.{length, get_or}
+use Rattle.order.specs.Least.{None, Least}
 use Rattle.order.specs.Rule.{Kept, rule}
-use Rattle.order.proofs.Numbers.{last_or}
-use Rattle.order.proofs.Searches.{none_yet, none_next, hit_as, one_kept}
+use Rattle.order.proofs.Searches.{none_hit, found_as, none_as, one_kept}
 use Rattle.rows.specs.Members.{In, Is}
 use Rattle.rows.specs.Table.{HasRows, rel, Adds}
 use Rattle.rows.specs.declared.Set.{Set}
@@ -34,44 +31,6 @@ use Rattle.sequences.proofs.Members.{each_once}
 -- the number at i is not below n
 abbrev pub Large : ℕ → List ℕ → ℕ → Type 0
 Large n l i = (i < length l) × (n ≤ (steps l).item i)
-
--- the numbers before i are below n, and b, which was a, has them
-pub record Narrowing (n : ℕ) (l a b : List ℕ) (i : ℕ) : Type 0 where
-  pub upto : i ≤ n
-  pub same : length b ≡ length a
-  pub none : None i (Large n l)
-  pub copied : (k : ℕ) → k < i → get_or b k 0 ≡ (steps l).item k
-
-module _ (n : ℕ) (l a : List ℕ) (size : n ≡ length l) (room : n ≤ length a) where
-  pub narrow_begin : Narrowing n l a a 0
-  narrow_begin = record { upto = omega arith; same = refl; none = none_yet _; copied = λ k h. absurd (omega arith) }
-
-  module _ (b : List ℕ) (i : ℕ) (s : Narrowing n l a b i) where
-    pub narrow_more : i < n → (steps l).item i < n → Narrowing n l a (set b i ((steps l).item i)) (i + 1)
-    narrow_more h g = record {
-      upto = omega arith;
-      same = length-set b i _ ∙ s.same;
-      none = none_next _ i s.none (λ (x, y). omega arith);
-      copied = λ k j. copied k (last_or i k (omega arith));
-    }
-      where
-        room_here : i < length b
-        room_here = let e = s.same in omega arith
-
-        copied : (k : ℕ) → (k ≡ i) ⊎ (k < i) → get_or (set b i ((steps l).item i)) k 0 ≡ (steps l).item k
-        copied k (inl e) = rw e (get_or-set_same b i ((steps l).item i) 0 room_here)
-        copied k (inr j) = get_or-set_other b i k ((steps l).item i) 0 (λ e. omega arith) ∙ s.copied k j
-
-    pub narrow_done : n ≤ i → Narrowed n l b
-    narrow_done h = record {
-      fits = let e = s.same in omega arith;
-      low = λ k g. low k g (dec_lt ((steps l).item k) n);
-      same = λ k g. s.copied k (omega arith);
-    }
-      where
-        low : (k : ℕ) → k < length l → Dec ((steps l).item k < n) → (steps l).item k < n
-        low k g (yes d) = d
-        low k g (no d) = absurd (s.none k (omega arith) (g, omega arith))
 
 -- the bytes as a list
 abbrev pub front : ℕ → Part
@@ -123,17 +82,23 @@ module _ (z : Execution) (small : z.events.size ≤ 64) (l b : List ℕ) (s : Na
     member : (e : ℕ) → e < z.events.size → In all e
     member e q = i.has e (omega arith)
 
-    pub wrong_hit : (r : ℕ) → Hit 64 (λ e. Misplaced (In all e) (list_of b (front m)) e) r → Hit 64 (WrongEvent z l) r
-    unfolding WrongEvent
-    wrong_hit r h =
-        hit_as _ _ 64 r
-        (λ e q. misplaced_alike _ _ _ _ e (due e) (member e) front_alike q)
-        (λ e q. misplaced_alike _ _ _ _ e (member e) (due e) alike_front q)
-        h
+    abbrev Wrong : ℕ → Type 0
+    Wrong e = Misplaced (In all e) (list_of b (front m)) e
 
-    module _ (r : ℕ) (h : Hit 64 (λ e. Misplaced (In all e) (list_of b (front m)) e) r) (g : 64 ≤ r) where
+    to_wrong : (e : ℕ) → Wrong e → WrongEvent z l e
+    unfolding WrongEvent
+    to_wrong e = misplaced_alike _ _ _ _ e (due e) (member e) front_alike
+
+    from_wrong : (e : ℕ) → WrongEvent z l e → Wrong e
+    unfolding WrongEvent
+    from_wrong e = misplaced_alike _ _ _ _ e (member e) (due e) alike_front
+
+    pub wrong_least : (r : ℕ) → (r < 64) × Least Wrong r → (r < 64) × Least (WrongEvent z l) r
+    wrong_least = found_as 64 Wrong (WrongEvent z l) to_wrong from_wrong
+
+    module _ (h : None 64 Wrong) where
       pub event_kept : Kept (rule 30 1 (WrongEvent z l))
-      event_kept = one_kept 30 64 (WrongEvent z l) r (wrong_hit r h) g wrong_low
+      event_kept = one_kept 30 64 (WrongEvent z l) 64 (none_hit 64 _ (none_as 64 Wrong (WrongEvent z l) to_wrong from_wrong h)) (omega arith) wrong_low
 
       once : Proper (steps l) (λ e. e < z.events.size)
       once = each_once z l event_kept

@@ -3,10 +3,8 @@ use Prim.Native.Nat.{ℕ, ◌<◌}
 use mathlib.Core.Path.{◌≡◌}
 use mathlib.Core.Logic.{◌⊎◌, inl, inr}
 use mathlib.Core.List.{List}
-use native.Mathlib.Omega.{arith}
-use Rattle.order.specs.Least.{None, Hit}
+use Rattle.order.specs.Least.{None}
 use Rattle.order.specs.Rule.{Any, AllKept}
-use Rattle.order.proofs.Searches.{hit_not}
 use Rattle.rows.specs.Members.{In, Is}
 use Rattle.rows.specs.Table.{rel}
 use Rattle.rows.specs.declared.Set.{Set}
@@ -45,6 +43,6 @@ module _ (z : Execution) (l b t u : List ℕ) (f : Formed z) (s : AllKept (struc
       )
 
   -- what is before another is an event, so a search of the events is one of all
-  pub reversed_none : (n : ℕ) → n ≡ z.events.size → None n (λ a. Any 1 (Reversed z l a)) → Hit 64 (λ a. Any 1 (Reversed z l a)) 64
+  pub reversed_none : (n : ℕ) → n ≡ z.events.size → None n (λ a. Any 1 (Reversed z l a)) → None 64 (λ a. Any 1 (Reversed z l a))
   unfolding Reversed
-  reversed_none n e none = hit_not _ 64 64 (λ a h (k, (g, o)). none a (rw e (given_apart z l f s once a k g).from) (k, (g, o))) (omega arith)
+  reversed_none n e none a h (k, (g, o)) = none a (rw e (given_apart z l f s once a k g).from) (k, (g, o))

@@ -5,12 +5,12 @@ use mathlib.Core.Logic.{◌↔◌, inl}
 use mathlib.Core.List.{List, [], ◌∷◌}
 use native.Mathlib.Omega.{arith}
 use lib.ListN.{length, set, drop}
-use Rattle.order.specs.Least.{Hit}
+use Rattle.order.specs.Least.{None, Least}
 use Rattle.order.specs.Rule.{Kept, Judged, Numbered, rule}
 use Rattle.order.specs.Evidence.{Given}
 use Rattle.order.proofs.Dictionaries.{firstly_nil}
 use Rattle.order.proofs.Judgements.{given_next, given_kept}
-use Rattle.order.proofs.Searches.{hit_as, one_shown, one_kept}
+use Rattle.order.proofs.Searches.{found_hit, none_hit, found_as, none_as, one_shown, one_kept}
 use Rattle.rows.specs.Table.{HasRows, rel}
 use Rattle.record.specs.Execution.{Execution}
 use Rattle.model.specs.Model.{Before}
@@ -30,25 +30,29 @@ module _ (z : Execution) (l : List ℕ) where
     length_kept (x ∷ w) q = q
 
     -- 29
-    module _ (n : ℕ) (e : n ≡ z.events.size) (r : ℕ) (h : Hit n (Large n l) r) where
-      large_hit : Hit n (TooLarge z l) r
+    module _ (n : ℕ) (e : n ≡ z.events.size) where
+      to_large : (k : ℕ) → Large n l k → TooLarge z l k
       unfolding TooLarge
-      large_hit = hit_as _ _ n r (λ k (a, b). (a, omega arith)) (λ k (a, b). (a, omega arith)) h
+      to_large k (a, b) = (a, omega arith)
 
-      large_low : (k : ℕ) → TooLarge z l k → k < n
+      from_large : (k : ℕ) → TooLarge z l k → Large n l k
       unfolding TooLarge
-      large_low k (a, b) = omega arith
+      from_large k (a, b) = (a, omega arith)
 
-      pub large_shown : r < n → (ev : List ℕ) → 1 ≤ length ev → Given (Judged (sequence_rules z l)) ev (set ev 0 r) 29 1
-      large_shown g ev k = given_next _ _ ev _ _ _ length_kept (one_shown 29 n (TooLarge z l) r large_hit g _ ev k)
+      pub large_shown : (r : ℕ) → (r < n) × Least (Large n l) r → (ev : List ℕ) → 1 ≤ length ev → Given (Judged (sequence_rules z l)) ev (set ev 0 r) 29 1
+      large_shown r h ev k =
+          let f = found_as n (Large n l) (TooLarge z l) to_large from_large r h in
+          given_next _ _ ev _ _ _ length_kept (one_shown 29 n (TooLarge z l) r (found_hit n _ r f) f.0 _ ev k)
 
-      module _ (g : n ≤ r) where
-        pub narrowed_all : (b : List ℕ) → (r ≡ n → Narrowed n l b) → Narrowed z.events.size l b
-        narrowed_all b f = let m = h.most in subst (λ (k : ℕ). Narrowed k l b) e (f (omega arith))
+      pub narrowed_all : (b : List ℕ) → Narrowed n l b → Narrowed z.events.size l b
+      narrowed_all b = subst (λ (k : ℕ). Narrowed k l b) e
 
-        pub large_next : (ev out : List ℕ) (a k : ℕ) → Given (Judged (drop 2 (sequence_rules z l))) ev out a k → Given (Judged (sequence_rules z l)) ev out a k
-        large_next ev out a k q =
-            given_next _ _ _ _ _ _ length_kept (given_next _ _ _ _ _ _ (one_kept 29 n (TooLarge z l) r large_hit g large_low) q)
+      pub large_next : None n (Large n l) → (ev out : List ℕ) (a k : ℕ) → Given (Judged (drop 2 (sequence_rules z l))) ev out a k
+          → Given (Judged (sequence_rules z l)) ev out a k
+      large_next f ev out a k q =
+          let h = none_hit n _ (none_as n (Large n l) (TooLarge z l) to_large from_large f) in
+          let low : (k : ℕ) → TooLarge z l k → k < n = λ k o. let m = (from_large k o).0 in omega arith in
+          given_next _ _ _ _ _ _ length_kept (given_next _ _ _ _ _ _ (one_kept 29 n (TooLarge z l) n h (omega arith) low) q)
 
   -- no rule has the number 0
   pub sequence_numbered : Numbered (sequence_rules z l)

@@ -1,13 +1,13 @@
 -- The memory state along a list: before the first step, after a step, and the last write of a place that it has.
+use Rattle.std.specs.Prelude.{Option, Some as Just, None as Nothing}
 use Prim.Native.Nat.{ℕ, ◌+◌, ◌<◌}
 use mathlib.Core.Path.{◌≡◌, refl, sym, ap, ◌∙◌, subst}
 use mathlib.Core.Logic.{◌⊎◌, inl, inr, ⊎_elim}
 use mathlib.Core.Bool.{Bool}
 use mathlib.Core.List.{List}
 use native.Mathlib.Omega.{arith}
-use native.Mathlib.Decide.{dec_lt}
 use Rattle.order.specs.Decides.{Decides}
-use Rattle.order.specs.Least.{Some, None, Hit}
+use Rattle.order.specs.Least.{Some, None, Found}
 use Rattle.order.proofs.Numbers.{last_or}
 use Rattle.order.proofs.Tests.{by_as}
 use Rattle.rows.specs.Members.{In, Is}
@@ -42,9 +42,6 @@ module _ (z : Execution) (c : Classes) (k : Classed z c) (s : Set) (e : ℕ) (lo
 module _ (z : Execution) (l : List ℕ) where
   abbrev at : ℕ → ℕ
   at = (steps l).item
-
-  pub state_begin : (m : State) → Is m.last (λ k. ⊥) → StateAt z l 0 m
-  state_begin m s = record { low = λ j h. absurd (omega arith); last = is_as m.last _ _ (λ k q. absurd q) (λ k q. let h = q.1 in omega arith) s }
 
   -- w is its place's last write before step i
   abbrev Lasting : ℕ → ℕ → Type 0
@@ -121,11 +118,11 @@ module _ (z : Execution) (l : List ℕ) where
 
     -- the member at r's place is its last write
     pub source_is : (q : List ℕ) → Placed z q → (r : ℕ) → r < z.events.size → (row both : Set) → Is row (rel q r)
-        → Is both (λ k. In m.last k × In row k) → (w : ℕ) → Hit 64 (In both) w → SourceBefore z l i r w
-    source_is q placed r h row both ir ib w hit = go (dec_lt w 64)
+        → Is both (λ k. In m.last k × In row k) → (w : Option ℕ) → Found 64 (In both) w → SourceBefore z l i r w
+    source_is q placed r h row both ir ib = go
       where
-        found : In m.last w × In row w → Some i (λ j. (at j ≡ w) × LastWrite z l i r j)
-        found (c, d) =
+        found : (w : ℕ) → In m.last w × In row w → Some i (λ j. (at j ≡ w) × LastWrite z l i r j)
+        found w (c, d) =
             let (j, g, (a, u)) = state.last.says w c in
             (j, g, (a, last_as i w r j (same_sym r w ((placed.pairs r w).0 (ir.says w d)).2) u))
 
@@ -137,10 +134,10 @@ module _ (z : Execution) (l : List ℕ) where
               ir.has (at j) ((placed.pairs r (at j)).1 (h, state.low j u.0, p)),
             )
 
-        none : w ≡ 64 → ((j : ℕ) × LastWrite z l i r j) ⊎ None i (λ j. WritesPlace z (at j) r) → None i (λ j. WritesPlace z (at j) r)
-        none e (inl (j, u)) = let c = member j u in let d = in_low both (at j) c in absurd (hit.none (at j) (omega arith) c)
-        none e (inr f) = f
+        none : None 64 (In both) → ((j : ℕ) × LastWrite z l i r j) ⊎ None i (λ j. WritesPlace z (at j) r) → None i (λ j. WritesPlace z (at j) r)
+        none f (inl (j, u)) = let c = member j u in absurd (f (at j) (in_low both (at j) c) c)
+        none f (inr g) = g
 
-        go : Dec (w < 64) → SourceBefore z l i r w
-        go (yes g) = inl (found (ib.says w (hit.hit g)))
-        go (no g) = let o = hit.most in let e : w ≡ 64 = omega arith in inr (e, none e (latest z l r i))
+        go : (w : Option ℕ) → Found 64 (In both) w → SourceBefore z l i r w
+        go (Just w) f = found w (ib.says w f.1.0)
+        go Nothing f = none f (latest z l r i)

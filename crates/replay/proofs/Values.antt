@@ -1,12 +1,14 @@
 -- Rule 33: whether a read has the value that its place holds, and the first step that is a read with another.
-use Prim.Native.Nat.{ℕ, ◌<◌, ◌≤◌}
-use mathlib.Core.Path.{◌≡◌, sym, ap, ◌∙◌}
+use Prim.Native.Nat.{ℕ, ◌<◌}
+use mathlib.Core.Path.{◌≡◌, refl, sym, ap, ◌∙◌}
+use mathlib.Core.Bool.{Bool}
 use mathlib.Core.Logic.{◌⊎◌, inl, inr}
 use mathlib.Core.List.{List}
 use lib.Dec.{eqb}
 use lib.ListN.{length}
 use native.Mathlib.Omega.{arith}
 use Rattle.order.specs.Decides.{Decides}
+use Rattle.order.specs.Least.{Some, None}
 use Rattle.order.proofs.Tests.{by_eq, by_as}
 use Rattle.form.specs.Bytes.{num}
 use Rattle.form.specs.Right.{Right}
@@ -16,11 +18,13 @@ use Rattle.record.specs.Says.{execution_of}
 use Rattle.record.specs.declared.Event.{Event}
 use Rattle.record.proofs.Formings.{formed}
 use Rattle.model.specs.Model.{Reads}
-use Rattle.model.specs.Rules.{Initially}
-use Rattle.axioms.specs.Faults.{Coded}
+use Rattle.model.specs.Rules.{WritesPlace, Initially}
+use Rattle.axioms.specs.Faults.{Coded, code}
+use Rattle.axioms.specs.declared.initial.Start.{Start}
+use Rattle.axioms.specs.declared.initial.Start.TheVariants.{Absent, Other, Same}
 use Rattle.axioms.proofs.Initials.{initially_unique}
-use Rattle.sequences.specs.Sequence.{steps, Holds, Differs}
-use Rattle.replay.specs.Known.{Narrowed, StateAt, SourceBefore}
+use Rattle.sequences.specs.Sequence.{steps, LastWrite, Holds, Differs}
+use Rattle.replay.specs.Known.{Narrowed, StateAt}
 use Rattle.sequences.specs.ReadOff.{event}
 use Rattle.replay.specs.declared.State.{State}
 use Rattle.sequences.proofs.Sourcing.{last_unique}
@@ -30,55 +34,52 @@ module _ (z : Execution) (l : List ℕ) (i r : ℕ) where
   abbrev Agrees : Type 0
   Agrees = Holds z l i r (event z r).value
 
-  module _ (w : ℕ) (source : SourceBefore z l i r w) where
-    pub source_low : (m : State) → StateAt z l i m → w < 64 → w < z.events.size
-    source_low m s g = go source
-      where
-        go : SourceBefore z l i r w → w < z.events.size
-        go (inl (j, h, (e, u))) = rw e at (s.low j h)
-        go (inr (e, n)) = absurd (omega arith)
+  -- w is the last write of r's place
+  module _ (w : ℕ) (source : Some i (λ j. ((steps l).item j ≡ w) × LastWrite z l i r j)) where
+    pub source_low : (m : State) → StateAt z l i m → w < z.events.size
+    source_low m s = let (j, h, (e, u)) = source in rw e at (s.low j h)
 
-    pub written_decides : w < 64 → (x y : Event) → x ≡ event z w → y ≡ event z r → Decides (eqb x.value y.value) Agrees
-    written_decides g x y ex ey = go source
+    pub written_decides : (x y : Event) → x ≡ event z w → y ≡ event z r → Decides (eqb x.value y.value) Agrees
+    written_decides x y ex ey = by_as _ to from (by_eq _ _)
       where
         value : {a b : Event} → a ≡ b → a.value ≡ b.value
         value = ap (λ (v : Event). v.value)
 
-        go : SourceBefore z l i r w → Decides (eqb x.value y.value) Agrees
-        go (inl (j, h, (e, u))) = by_as _ to from (by_eq _ _)
-          where
-            here : (event z ((steps l).item j)).value ≡ x.value
-            here = value (ap z.events.item e ∙ sym ex)
+        here : (event z ((steps l).item source.0)).value ≡ x.value
+        here = value (ap z.events.item source.2.0 ∙ sym ex)
 
-            to : x.value ≡ y.value → Agrees
-            to q = inl (j, u, here ∙ q ∙ value ey)
+        to : x.value ≡ y.value → Agrees
+        to q = inl (source.0, source.2.1, here ∙ q ∙ value ey)
 
-            from : Agrees → x.value ≡ y.value
-            from (inl (k, v, d)) =
-                sym here ∙ ap (λ (n : ℕ). (event z ((steps l).item n)).value) (last_unique z l i r j k u v) ∙ d ∙ sym (value ey)
-            from (inr (n, d)) = absurd (n j h u.1)
-        go (inr (e, n)) = absurd (omega arith)
+        from : Agrees → x.value ≡ y.value
+        from (inl (k, v, d)) =
+            sym here ∙ ap (λ (n : ℕ). (event z ((steps l).item n)).value) (last_unique z l i r source.0 k source.2.1 v) ∙ d ∙ sym (value ey)
+        from (inr (n, d)) = absurd (n source.0 source.1 source.2.1.1)
 
-    pub initial_decides : (m : State) → StateAt z l i m → z.events.size ≤ 64 → 64 ≤ w → (code : ℕ) → Coded z r code → Decides (eqb code 2) Agrees
-    initial_decides m s few g code d = go source
+  -- there is none
+  module _ (none : None i (λ j. WritesPlace z ((steps l).item j) r)) where
+    starts : Agrees → Initially z (event z r) (event z r).value
+    starts (inl (j, u, v)) = absurd (none j u.0 u.1)
+    starts (inr (f, v)) = v
+
+    pub initial_decides : (k : Start) → Coded z r (code k) → (t : Bool) → Decides t (k ≡ Same) → Decides t Agrees
+    initial_decides k d t = by_as t (to k d) (from k d)
       where
-        go : SourceBefore z l i r w → Decides (eqb code 2) Agrees
-        go (inl (j, h, (e, u))) = let o = s.low j h in absurd (omega arith)
-        go (inr (e, none)) = by_as _ (to d) from (by_eq code 2)
-          where
-            to : Coded z r code → code ≡ 2 → Agrees
-            to (inl (c, n)) q = absurd (omega arith)
-            to (inr (inl (c, n))) q = absurd (omega arith)
-            to (inr (inr (c, v))) q = inr (none, v)
+        to : (k : Start) → Coded z r (code k) → k ≡ Same → Agrees
+        to Absent d e = cc
+        to Other d e = cc
+        to Same (inl (c, n)) e = absurd (omega arith)
+        to Same (inr (inl (c, n))) e = absurd (omega arith)
+        to Same (inr (inr (c, v))) e = inr (none, v)
 
-            same : Coded z r code → Initially z (event z r) (event z r).value → code ≡ 2
-            same (inl (c, n)) v = absurd (n v.0 v.1 v.2.0)
-            same (inr (inl (c, (v, q, n)))) o = absurd (n (initially_unique z (event z r) _ _ q o))
-            same (inr (inr (c, v))) o = c
-
-            from : Agrees → code ≡ 2
-            from (inl (j, u, v)) = absurd (none j u.0 u.1)
-            from (inr (f, v)) = same d v
+        from : (k : Start) → Coded z r (code k) → Agrees → k ≡ Same
+        from Absent (inl (c, n)) a = let v = starts a in absurd (n v.0 v.1 v.2.0)
+        from Absent (inr (inl (c, n))) a = absurd (omega arith)
+        from Absent (inr (inr (c, n))) a = absurd (omega arith)
+        from Other (inl (c, n)) a = absurd (omega arith)
+        from Other (inr (inl (c, (v, q, n)))) a = absurd (n (initially_unique z (event z r) _ _ q (starts a)))
+        from Other (inr (inr (c, n))) a = absurd (omega arith)
+        from Same d a = refl
 
 -- the number of step i, read from the bytes
 module _ (z : Execution) (l b : List ℕ) (narrow : Narrowed z.events.size l b) (i : ℕ) (h : i < length l) (e : ℕ) (read : e ≡ num 1 b i) where

@@ -1,5 +1,5 @@
 -- What is known of a sequence while the replay's rules are judged.
-use Rattle.std.specs.Prelude.{ℕ, ◌<◌, ◌≤◌, ◌≡◌, ◌⊎◌, ◌↔◌, List, length, get_or}
+use Rattle.std.specs.Prelude.{ℕ, ◌<◌, ◌≤◌, ◌≡◌, ◌⊎◌, ◌↔◌, List, length, get_or, Option, MatchOption}
 use Rattle.order.specs.Least.{Some, None}
 use Rattle.order.specs.Rule.{AllKept}
 use Rattle.rows.specs.Members.{Is}
@@ -34,7 +34,7 @@ pub record StateAt (z : Execution) (l : List ℕ) (i : ℕ) (m : State) : Type 0
   pub low : (j : ℕ) → j < i → (steps l).item j < z.events.size
   pub last : Is m.last (λ w. Some i (λ j. ((steps l).item j ≡ w) × LastWrite z l i w j))
 
--- w is the last write of r's place before step i, or 64 where there is none
-abbrev pub SourceBefore : Execution → List ℕ → ℕ → ℕ → ℕ → Type 0
+-- w is the last write of r's place before step i, if there is one
+abbrev pub SourceBefore : Execution → List ℕ → ℕ → ℕ → Option ℕ → Type 0
 SourceBefore z l i r w =
-    Some i (λ j. ((steps l).item j ≡ w) × LastWrite z l i r j) ⊎ ((w ≡ 64) × None i (λ j. WritesPlace z ((steps l).item j) r))
+    MatchOption w (None i (λ j. WritesPlace z ((steps l).item j) r)) (λ x. Some i (λ j. ((steps l).item j ≡ x) × LastWrite z l i r j))

@@ -11,7 +11,7 @@ pub mod sequence;
 pub mod steps;
 
 // The memory state: of each place that is written, its last write.
-#[derive(Clone, Copy)]
+#[derive(Clone, Copy, PartialEq, Eq)]
 pub struct State {
     pub last: Set,
 }

@@ -3,6 +3,7 @@ ghost use Rattle.std.specs.Prelude.{ℕ, ◌≤◌, List, ◌++◌, length, drop
 ghost use Rattle.order.specs.Rule.{Judged, AllKept};
 ghost use Rattle.order.specs.Evidence.{Given};
 ghost use Rattle.form.specs.Right.{Right};
+ghost use Rattle.record.specs.Refusals.{answer_of, count_of};
 ghost use Rattle.record.specs.Says.{execution_of};
 ghost use Rattle.record.specs.Laid.{Laid};
 ghost use Rattle.facts.specs.Facts.{Sorted, Ready, Gathered};
@@ -16,10 +17,10 @@ use crate::sequence::sequence;
 use crate::steps::{against, differing, reversed};
 use facts::Classes;
 use facts::gather::gather;
-use form::Step;
 use form::bytes::num1;
 use form::whole::whole;
 use orders::preserved::put_preserved;
+use record::refusal::Refusal;
 use record::sections::layout;
 use record::{Layout, Verdict};
 use structure::rules::structure;
@@ -33,24 +34,18 @@ fn from_thirtythree(
     b: &[u8],
     list: &[u16],
     ev: &mut [u16],
-) -> Verdict
+) -> Result<(), Refusal>
     requires { Ready s.now l q.now c × ((u : List ℕ) × Sequenced (execution_of s.now) list.now b.now u) × (65 ≤ length ev.old) }
-    ensures { Given (Judged (drop 1 (step_rules (execution_of s.now) list.now))) ev.old ev.new result.answer result.count }
+    ensures { Given (Judged (drop 1 (step_rules (execution_of s.now) list.now))) ev.old ev.new (answer_of result) (count_of result) }
 {
-    let n = l.events;
-    let initials = l.initials;
-    let i = differing(s, initials, q, c, b, n);
-    if i < n {
+    if let Some(i) = differing(s, l.initials, q, c, b, l.events) {
         ev[0] = num1(b, i) as u16;
-        return Verdict {
+        return Err(Refusal {
             answer: 33,
             count: 1,
-        };
+        });
     }
-    Verdict {
-        answer: 0,
-        count: 0,
-    }
+    Ok(())
 }
 
 // The rules 32 and 33. The table t has section 3; b and u have the list.
@@ -65,21 +60,21 @@ fn from_thirtytwo(
     u: &[u64],
     list: &[u16],
     ev: &mut [u16],
-) -> Verdict
+) -> Result<(), Refusal>
     requires ready { Ready s.now l q.now c × Sorted (execution_of s.now) f.now × Held (execution_of s.now) t.old × AllKept (structure_rules (execution_of s.now)) }
     requires sequenced { Sequenced (execution_of s.now) list.now b.now u.now × (65 ≤ length ev.old) }
-    ensures { Given (Judged (step_rules (execution_of s.now) list.now)) ev.old ev.new result.answer result.count }
+    ensures { Given (Judged (step_rules (execution_of s.now) list.now)) ev.old ev.new (answer_of result) (count_of result) }
 {
-    let n = l.events;
     put_preserved(s, f, q, c, t);
-    let a = reversed(t, u, n);
-    if a < 64 {
+    if let Some(a) = reversed(t, u, l.events) {
+        // There is one: that is what a was found by.
+        let b = against(t, u, a).first().unwrap();
         ev[0] = a as u16;
-        ev[1] = rows::first(against(t, u, a)) as u16;
-        return Verdict {
+        ev[1] = b as u16;
+        return Err(Refusal {
             answer: 32,
             count: 2,
-        };
+        });
     }
     from_thirtythree(s, l, q, c, b, list, ev)
 }
@@ -95,33 +90,27 @@ fn from_twentyeight(
     t: &mut [u64],
     list: &[u16],
     ev: &mut [u16],
-) -> Verdict
+) -> Result<(), Refusal>
     requires { Gathered s.now l f.now q.now k.now c × Held (execution_of s.now) t.old × AllKept (structure_rules (execution_of s.now)) × (65 ≤ length ev.old) }
-    ensures { Given (Judged (replay_rules (execution_of s.now) list.now)) ev.old ev.new result.answer result.count }
+    ensures { Given (Judged (replay_rules (execution_of s.now) list.now)) ev.old ev.new (answer_of result) (count_of result) }
 {
     let mut b = [0u8; 64];
     let mut u = [0u64; 64];
-    let v = sequence(s, l, k, c, list, &mut b, &mut u, ev);
-    if v.answer != 0 {
-        return v;
-    }
+    sequence(s, l, k, c, list, &mut b, &mut u, ev)?;
     from_thirtytwo(s, l, f, q, c, t, &b, &u, list, ev)
 }
 
 // All rules of a record that has the form.
-fn from_ten(s: &[u8], l: Layout, list: &[u16], ev: &mut [u16]) -> Verdict
+fn from_ten(s: &[u8], l: Layout, list: &[u16], ev: &mut [u16]) -> Result<(), Refusal>
     requires { Right s.now × Laid s.now l × (65 ≤ length ev.old) }
-    ensures { Given (Judged (structure_rules (execution_of s.now) ++ replay_rules (execution_of s.now) list.now)) ev.old ev.new result.answer result.count }
+    ensures { Given (Judged (structure_rules (execution_of s.now) ++ replay_rules (execution_of s.now) list.now)) ev.old ev.new (answer_of result) (count_of result) }
 {
     let mut f = [0u64; 8];
     let mut q = [0u64; 64];
     let mut k = [0u64; 17];
     let mut t = [0u64; 64];
     let c = gather(s, l, &mut f, &mut q, &mut k);
-    let v = structure(s, l, &q, &k, c, &mut t, ev);
-    if v.answer != 0 {
-        return v;
-    }
+    structure(s, l, &q, &k, c, &mut t, ev)?;
     from_twentyeight(s, l, &f, &q, &k, c, &mut t, list, ev)
 }
 
@@ -136,13 +125,13 @@ pub fn replay(s: &[u8], list: &[u16], ev: &mut [u16]) -> Verdict
         };
     }
     match whole(s) {
-        Step::Stop(f) => {
+        Err(f) => {
             ev[0] = f.section;
             Verdict {
                 answer: f.answer,
                 count: 1,
             }
         }
-        Step::Next(_) => from_ten(s, layout(s), list, ev),
+        Ok(_) => from_ten(s, layout(s), list, ev).into(),
     }
 }

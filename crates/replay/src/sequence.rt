@@ -1,11 +1,12 @@
 // The rules 28 to 31: each function judges by the rules from its number on.
-ghost use Rattle.std.specs.Prelude.{ℕ, ◌≤◌, ◌<◌, ◌≡◌, ◌↔◌, List, length, drop};
-ghost use Rattle.order.specs.Least.{Hit};
+ghost use Rattle.std.specs.Prelude.{ℕ, ◌≤◌, ◌<◌, ◌≡◌, ◌↔◌, List, length, drop, IfNone, IfOk};
+ghost use Rattle.order.specs.Least.{Found};
 ghost use Rattle.order.specs.Rule.{Judged};
 ghost use Rattle.order.specs.Evidence.{Given};
 ghost use Rattle.rows.specs.Table.{HasRows, rel};
 ghost use Rattle.form.specs.Right.{Right};
 ghost use Rattle.record.specs.Execution.{Execution};
+ghost use Rattle.record.specs.Refusals.{answer_of, count_of};
 ghost use Rattle.record.specs.Says.{execution_of};
 ghost use Rattle.record.specs.Laid.{Laid};
 ghost use Rattle.facts.specs.Facts.{Blank, Entered, Mated, Classed};
@@ -19,49 +20,45 @@ use axioms::witness::misplaced;
 use facts::Classes;
 use facts::locks::mate;
 use orders::lists::put_order;
-use record::{Layout, Part, Verdict};
+use record::refusal::Refusal;
+use record::{Layout, Part};
 use rows::Set;
 
-// 29: the first number that is not below n, or n. Where there is none, the numbers are the first n bytes of b.
-fn narrow(list: &[u16], n: usize, b: &mut [u8]) -> usize
+// 29: the first number that is not below n. Where there is none, the numbers are the first n bytes of b.
+fn narrow(list: &[u16], n: usize, b: &mut [u8]) -> Option<usize>
     requires { (n ≡ length list.now) × (n ≤ 64) × (n ≤ length b.old) }
-    ensures hit { Hit n (λ i. (i < length list.now) × (n ≤ (steps list.now).item i)) result }
-    ensures narrowed { result ≡ n → Narrowed n list.now b.new }
+    ensures found { Found n (λ i. (i < length list.now) × (n ≤ (steps list.now).item i)) result }
+    ensures narrowed { IfNone result (Narrowed n list.now b.new) }
 {
-    let mut i = 0;
-    while i < n {
-        let e = list[i] as usize;
+    for (i, e) in list.iter().enumerate() {
+        let e = *e as usize;
         if n <= e {
-            return i;
+            return Some(i);
         }
         b[i] = e as u8;
-        i += 1;
     }
-    n
+    None
 }
 
 // The table u has the order of the list, which has the members of `all` once each.
-fn from_thirtyone(m: &[u64], u: &[u64], c: Classes, all: Set, ev: &mut [u16]) -> Verdict
+fn from_thirtyone(m: &[u64], u: &[u64], c: Classes, all: Set, ev: &mut [u16]) -> Result<(), Refusal>
     requires has_rows { HasRows m.now 64 × HasRows u.now 64 × (65 ≤ length ev.old) }
     requires by_index { (z : Execution) × (l : List ℕ) × Lined z (steps l) u.now all × Mated z m.now × Classed z c }
-    ensures { (z : Execution) (l : List ℕ) → Lined z (steps l) u.now all → Mated z m.now → Classed z c → Given (Judged (drop 3 (sequence_rules z l))) ev.old ev.new result.answer result.count }
+    ensures { (z : Execution) (l : List ℕ) → Lined z (steps l) u.now all → Mated z m.now → Classed z c → Given (Judged (drop 3 (sequence_rules z l))) ev.old ev.new (answer_of result) (count_of result) }
 {
-    let a = torn(u, m, c.locked, all);
-    if a < 64 {
-        let x = tearing(u, m, all, a);
-        let b = rows::first(torn_from(u, m, all, a, x));
+    if let Some(a) = torn(u, m, c.locked, all) {
+        // There are both: that is what a was found by.
+        let x = tearing(u, m, all, a).unwrap();
+        let b = torn_from(u, m, all, a, x).first().unwrap();
         ev[0] = a as u16;
         ev[1] = x as u16;
         ev[2] = b as u16;
-        return Verdict {
+        return Err(Refusal {
             answer: 31,
             count: 3,
-        };
+        });
     }
-    Verdict {
-        answer: 0,
-        count: 0,
-    }
+    Ok(())
 }
 
 // The numbers of the list are the first bytes of b. Where the answer is 0, the table u has its order.
@@ -73,26 +70,24 @@ fn from_thirty(
     b: &[u8],
     u: &mut [u64],
     ev: &mut [u16],
-) -> Verdict
+) -> Result<(), Refusal>
     requires right { Right s.now × Laid s.now l × Entered (execution_of s.now) k.now × Classed (execution_of s.now) c × (HasRows u.old 64 × Blank u.old) × (65 ≤ length ev.old) }
     requires by_index { (i : List ℕ) × Narrowed (execution_of s.now).events.size i b.now × (length i ≡ (execution_of s.now).events.size) }
-    ensures by_index_2 { (i : List ℕ) → Narrowed (execution_of s.now).events.size i b.now → length i ≡ (execution_of s.now).events.size → Given (Judged (drop 2 (sequence_rules (execution_of s.now) i))) ev.old ev.new result.answer result.count }
-    ensures by_index_3 { (i : List ℕ) → Narrowed (execution_of s.now).events.size i b.now → length i ≡ (execution_of s.now).events.size → result.answer ≡ 0 → HasRows u.new 64 × ((x y : ℕ) → rel u.new x y ↔ Before (steps i) x y) }
+    ensures by_index_2 { (i : List ℕ) → Narrowed (execution_of s.now).events.size i b.now → length i ≡ (execution_of s.now).events.size → Given (Judged (drop 2 (sequence_rules (execution_of s.now) i))) ev.old ev.new (answer_of result) (count_of result) }
+    ensures by_index_3 { (i : List ℕ) → Narrowed (execution_of s.now).events.size i b.now → length i ≡ (execution_of s.now).events.size → answer_of result ≡ 0 → HasRows u.new 64 × ((x y : ℕ) → rel u.new x y ↔ Before (steps i) x y) }
 {
     let n = l.events;
-    let all = rows::full(n);
+    let all = Set::full(n);
     let list = Part { at: 0, count: n };
-    let e = misplaced(b, list, all);
-    if e < 64 {
+    if let Some(e) = misplaced(b, list, all) {
         ev[0] = e as u16;
-        return Verdict {
+        return Err(Refusal {
             answer: 30,
             count: 1,
-        };
+        });
     }
-    let locks = l.locks;
     let mut m = [0u64; 64];
-    mate(s, locks, k, &mut m);
+    mate(s, l.locks, k, &mut m);
     put_order(b, list, u);
     from_thirtyone(&m, u, c, all, ev)
 }
@@ -107,25 +102,24 @@ pub fn sequence(
     b: &mut [u8],
     u: &mut [u64],
     ev: &mut [u16],
-) -> Verdict
+) -> Result<(), Refusal>
     requires { Right s.now × Laid s.now l × Entered (execution_of s.now) k.now × Classed (execution_of s.now) c × (64 ≤ length b.old) × (HasRows u.old 64 × Blank u.old) × (65 ≤ length ev.old) }
-    ensures sequenced { result.answer ≡ 0 → Sequenced (execution_of s.now) list.now b.new u.new }
-    ensures given { Given (Judged (sequence_rules (execution_of s.now) list.now)) ev.old ev.new result.answer result.count }
+    ensures sequenced { IfOk result (λ _. Sequenced (execution_of s.now) list.now b.new u.new) }
+    ensures given { Given (Judged (sequence_rules (execution_of s.now) list.now)) ev.old ev.new (answer_of result) (count_of result) }
 {
     let n = l.events;
     if list.len() != n {
-        return Verdict {
+        return Err(Refusal {
             answer: 28,
             count: 0,
-        };
+        });
     }
-    let i = narrow(list, n, b);
-    if i < n {
+    if let Some(i) = narrow(list, n, b) {
         ev[0] = i as u16;
-        return Verdict {
+        return Err(Refusal {
             answer: 29,
             count: 1,
-        };
+        });
     }
     from_thirty(s, l, k, c, b, u, ev)
 }

@@ -1,24 +1,21 @@
-use mathlib.Core.Path.{refl}
-use mathlib.Core.Logic.{inl}
 use native.Mathlib.Omega.{arith}
 use Rattle.form.proofs.Rights.{whole_well}
 use Rattle.readoff.proofs.Writing.{off_stop, off_next}
 use Rattle.readoff.proofs.read_off.read_off.Goals as goal
 
-pub returns-then-out-lt2346 : goal.returns-then-out-lt2346
-returns-then-out-lt2346 c = inl (c.if-out-lt2346.true, refl, refl, refl)
-
 pub layout-requires : goal.layout-requires
-layout-requires c = whole_well _ c.in-Next.field-0 (cc)
+layout-requires c = whole_well _ c.in-Ok.field-0 (cc)
 
 pub from_ten-requires : goal.from_ten-requires
 from_ten-requires c =
-    (whole_well _ c.in-Next.field-0 (cc), c.layout.ensures, omega arith)
+    (whole_well _ c.in-Ok.field-0 (cc), c.layout.ensures, omega arith)
 
-pub returns-in-Stop : goal.returns-in-Stop
-returns-in-Stop c =
-    off_stop _ _ _ (omega arith) c.in-Stop.f (cc)
+pub returns-in-Err : goal.returns-in-Err
+returns-in-Err c =
+    off_stop _ _ _ (omega arith) c.in-Err.f (cc)
 
-pub returns-in-Next : goal.returns-in-Next
-returns-in-Next c =
-    off_next _ _ _ (omega arith) c.in-Next.field-0 (cc) _ _ _ c.from_ten.ensures
+pub returns-in-Err-from_ten : goal.returns-in-Err-from_ten
+returns-in-Err-from_ten c = off_next _ _ _ (omega arith) c.in-Ok.field-0 (cc) _ _ _ c.in-Err-from_ten.ensures
+
+pub returns-in-Ok-from_ten : goal.returns-in-Ok-from_ten
+returns-in-Ok-from_ten c = off_next _ _ _ (omega arith) c.in-Ok.field-0 (cc) _ _ _ c.in-Ok-from_ten.ensures

@@ -1,10 +1,11 @@
 use native.Mathlib.Omega.{arith}
 use Rattle.order.proofs.Judgements.{given_next}
-use Rattle.order.proofs.Searches.{one_shown}
+use Rattle.order.proofs.Searches.{found_hit, one_shown}
 use Rattle.rows.proofs.Table.{zeros_rel}
 use Rattle.record.specs.Says.{execution_of}
 use Rattle.record.proofs.Formings.{formed}
-use Rattle.replay.proofs.Narrowings.{front_listed, table_ordered, wrong_hit, event_kept, table_lined}
+use Rattle.replay.proofs.Narrowings.{front_listed, table_ordered, wrong_least, event_kept, table_lined}
+use Rattle.sequences.specs.Sequence.{WrongEvent}
 use Rattle.replay.proofs.sequence.from_thirty.Goals as goal
 
 pub full-all-requires : goal.full-all-requires
@@ -13,21 +14,17 @@ full-all-requires c = let p = c.requires.right in
     let e = p.1.events in
     omega arith
 
-pub misplaced-e-requires : goal.misplaced-e-requires
-misplaced-e-requires c = let p = c.requires.right in
+pub misplaced-requires : goal.misplaced-requires
+misplaced-requires c = let p = c.requires.right in
     let (i, narrowed, size) = c.requires.by_index in
     front_listed (execution_of c.args.s.now) (formed _ p.0).events.within i _ narrowed size _ p.1.events
 
-pub returns-then-e-lt64 : goal.returns-then-e-lt64
-returns-then-e-lt64 c = let p = c.requires.right in
+pub returns-in-Some-clause-by_index_2 : goal.returns-in-Some-clause-by_index_2
+returns-in-Some-clause-by_index_2 c i narrowed size = let p = c.requires.right in
     let b = p.5 in
     let z = execution_of c.args.s.now in
-    let w = (formed _ p.0).events.within in record {
-      by_index_2 = λ i narrowed size.
-          let hit = wrong_hit z w i _ narrowed size _ p.1.events _ c.full-all.ensures _ c.misplaced-e.ensures in
-          one_shown 30 64 _ _ hit c.if-e-lt64.true _ c.args.ev.now (omega arith);
-      by_index_3 = λ i narrowed size q. absurd (omega arith);
-    }
+    let f = wrong_least z (formed _ p.0).events.within i _ narrowed size _ p.1.events _ c.full-all.ensures _ c.in-Some.ensures in
+    one_shown 30 64 (WrongEvent z i) _ (found_hit 64 _ _ f) f.0 _ c.args.ev.now (omega arith)
 
 pub mate-requires : goal.mate-requires
 mate-requires c = let p = c.requires.right in
@@ -38,14 +35,14 @@ put_order-requires c = let p = c.requires.right in
     let (i, narrowed, size) = c.requires.by_index in
     (front_listed (execution_of c.args.s.now) (formed _ p.0).events.within i _ narrowed size _ p.1.events, p.4.0)
 
-pub from_thirtyone-requires : goal.from_thirtyone-requires
-from_thirtyone-requires c = let p = c.requires.right in
+pub from_thirtyone-requires-clause-by_index : goal.from_thirtyone-requires-clause-by_index
+from_thirtyone-requires-clause-by_index c = let p = c.requires.right in
     let (i, narrowed, size) = c.requires.by_index in
     let z = execution_of c.args.s.now in
     let w = (formed _ p.0).events.within in
     let order = table_ordered z w i _ narrowed size _ p.1.events _ _ p.4 c.put_order.ensures in
-    let line = table_lined z w i _ narrowed size _ p.1.events _ c.full-all.ensures _ c.misplaced-e.ensures c.if-e-lt64.false _ order in
-    record { has_rows = (c.mate.ensures.rows, line.rows, p.5); by_index = (z, i, line, c.mate.ensures, p.3) }
+    let line = table_lined z w i _ narrowed size _ p.1.events _ c.full-all.ensures c.in_default.ensures _ order in
+    (z, i, line, c.mate.ensures, p.3)
 
 pub returns : goal.returns
 returns c = let p = c.requires.right in
@@ -53,8 +50,8 @@ returns c = let p = c.requires.right in
     let w = (formed _ p.0).events.within in record {
       by_index_2 = λ i narrowed size.
           let order = table_ordered z w i _ narrowed size _ p.1.events _ _ p.4 c.put_order.ensures in
-          let line = table_lined z w i _ narrowed size _ p.1.events _ c.full-all.ensures _ c.misplaced-e.ensures c.if-e-lt64.false _ order in
-          let kept = event_kept z w i _ narrowed size _ p.1.events _ c.full-all.ensures _ c.misplaced-e.ensures c.if-e-lt64.false in
+          let line = table_lined z w i _ narrowed size _ p.1.events _ c.full-all.ensures c.in_default.ensures _ order in
+          let kept = event_kept z w i _ narrowed size _ p.1.events _ c.full-all.ensures c.in_default.ensures in
           given_next _ _ _ _ _ _ kept (c.from_thirtyone.ensures z i line c.mate.ensures p.3);
       by_index_3 = λ i narrowed size q. table_ordered z w i _ narrowed size _ p.1.events _ _ p.4 c.put_order.ensures;
     }

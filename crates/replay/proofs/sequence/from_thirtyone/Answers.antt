@@ -1,38 +1,47 @@
 use native.Mathlib.Omega.{arith}
-use lib.ListN.{length-set}
-use Rattle.replay.proofs.Breaking.{broken_none, broken_second, broken_shown}
+use Rattle.replay.proofs.Breaking.{broken_none, second_some, second_least, third_some, broken_shown}
 use Rattle.replay.proofs.sequence.from_thirtyone.Goals as goal
 
-pub torn_from-requires : goal.torn_from-requires
-torn_from-requires c = let p = c.requires in
-    let (z, l, line, mated, classed) = p.by_index in
-    let g = c.if-a-lt64.true in
+pub tearing-requires : goal.tearing-requires
+tearing-requires c = let (z, l, line, mated, classed) = c.requires.by_index in
+    let h = (c.in-Some.ensures z _ line mated classed.locked).0 in
     let t = line.rows in
     let m = mated.rows in
-    let x = broken_second z l _ _ line _ (c.torn-a.ensures z _ line mated classed.locked) g _ (c.tearing-x.ensures z _ line mated) in
+    (t, omega arith, omega arith)
+
+pub unwrap-x-requires : goal.unwrap-x-requires
+unwrap-x-requires c = let (z, l, line, mated, classed) = c.requires.by_index in
+    second_some z l _ _ line _ (c.in-Some.ensures z _ line mated classed.locked) _ (c.tearing.ensures z _ line mated)
+
+pub torn_from-requires : goal.torn_from-requires
+torn_from-requires c = let (z, l, line, mated, classed) = c.requires.by_index in
+    let h = c.in-Some.ensures z _ line mated classed.locked in
+    let x = (second_least z l _ _ line _ h _ (c.tearing.ensures z _ line mated) _ c.unwrap-x.ensures).0 in
+    let t = line.rows in
+    let m = mated.rows in
+    let g = h.0 in
     (omega arith, omega arith)
 
-pub overflow_cast-ev-then-a-lt64 : goal.overflow_cast-ev-then-a-lt64
-overflow_cast-ev-then-a-lt64 c = let p = c.requires in
-    let (z, l, line, mated, classed) = p.by_index in
-    let x = broken_second z l _ _ line _ (c.torn-a.ensures z _ line mated classed.locked) c.if-a-lt64.true _ (c.tearing-x.ensures z _ line mated) in
+pub unwrap-b-requires : goal.unwrap-b-requires
+unwrap-b-requires c = let (z, l, line, mated, classed) = c.requires.by_index in
+    third_some z l _ _ line _ (c.in-Some.ensures z _ line mated classed.locked) _ (c.tearing.ensures z _ line mated) _ c.unwrap-x.ensures _
+    (c.torn_from.ensures z _ line mated) _ c.first.ensures
+
+pub overflow_cast-ev : goal.overflow_cast-ev
+overflow_cast-ev c = let (z, l, line, mated, classed) = c.requires.by_index in
+    let h = (c.in-Some.ensures z _ line mated classed.locked).0 in
     record { fits = omega arith }
 
-pub bounds-ev-1 : goal.bounds-ev-1
-bounds-ev-1 c = let b = c.requires.has_rows.2 in
-    simp length-set (omega arith)
+pub overflow_cast-ev-in-Some : goal.overflow_cast-ev-in-Some
+overflow_cast-ev-in-Some c = let (z, l, line, mated, classed) = c.requires.by_index in
+    let h = c.in-Some.ensures z _ line mated classed.locked in
+    let x = (second_least z l _ _ line _ h _ (c.tearing.ensures z _ line mated) _ c.unwrap-x.ensures).0 in
+    record { fits = omega arith }
 
-pub bounds-ev-2 : goal.bounds-ev-2
-bounds-ev-2 c = let b = c.requires.has_rows.2 in
-    simp length-set (omega arith)
-
-pub returns-then-a-lt64 : goal.returns-then-a-lt64
-returns-then-a-lt64 c = let b = c.requires.has_rows.2 in
-    λ z l line mated classed.
-    let hit = c.torn-a.ensures z _ line mated classed.locked in
-    let second = c.tearing-x.ensures z _ line mated in
-    let third = c.torn_from.ensures z _ line mated in
-    broken_shown z l _ _ line _ hit c.if-a-lt64.true _ second _ third _ c.first-b.ensures c.args.ev.now (omega arith)
+pub returns-in-Some : goal.returns-in-Some
+returns-in-Some c z l line mated classed = let e = c.requires.has_rows.2 in
+    broken_shown z l _ _ line _ (c.in-Some.ensures z _ line mated classed.locked) _ (c.tearing.ensures z _ line mated) _ c.unwrap-x.ensures _
+    (c.torn_from.ensures z _ line mated) _ c.first.ensures _ c.unwrap-b.ensures _ (omega arith)
 
 pub returns : goal.returns
-returns c = λ z l line mated classed. broken_none z l _ _ line _ (c.torn-a.ensures z _ line mated classed.locked) c.if-a-lt64.false _
+returns c z l line mated classed = broken_none z l _ _ line (c.in_default.ensures z _ line mated classed.locked) _

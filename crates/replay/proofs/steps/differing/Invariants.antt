@@ -1,4 +1,4 @@
-use Prim.Native.Nat.{ℕ, ◌-◌, ◌≤◌}
+use Prim.Native.Nat.{ℕ}
 use mathlib.Core.Path.{◌≡◌}
 use mathlib.Core.List.{List}
 use lib.ListN.{length}
@@ -10,8 +10,5 @@ use Rattle.replay.proofs.steps.differing.Given as goal
 
 abbrev pub invariant-loop-i : goal.invariant-loop-i
 invariant-loop-i v =
-    (v.i ≤ v.n)
-    × ((l : List ℕ) → Narrowed (execution_of v.s).events.size l v.b → v.n ≡ length l → StateAt (execution_of v.s) l v.i v.state × None v.i (Differs (execution_of v.s) l))
-
-abbrev pub decreases-loop-i : goal.decreases-loop-i
-decreases-loop-i l = l.n - l.i
+    (l : List ℕ) → Narrowed (execution_of v.s).events.size l v.b → v.n ≡ length l
+    → StateAt (execution_of v.s) l v.i v.state × None v.i (Differs (execution_of v.s) l)

@@ -1,4 +1,4 @@
-use Prim.Native.Nat.{ℕ, ◌-◌, ◌≤◌}
+use Prim.Native.Nat.{ℕ}
 use mathlib.Core.List.{List}
 use Rattle.order.specs.Least.{None}
 use Rattle.order.specs.Rule.{Any, AllKept}
@@ -11,8 +11,5 @@ use Rattle.replay.proofs.steps.reversed.Given as goal
 
 abbrev pub invariant-loop-a : goal.invariant-loop-a
 invariant-loop-a v =
-    (v.a ≤ v.n)
-    × ((z : Execution) (l b : List ℕ) → Formed z → AllKept (structure_rules z) → Programmed z v.t → Sequenced z l b v.u → None v.a (λ e. Any 1 (Reversed z l e)))
-
-abbrev pub decreases-loop-a : goal.decreases-loop-a
-decreases-loop-a l = l.n - l.a
+    (z : Execution) (l b : List ℕ) → Formed z → AllKept (structure_rules z) → Programmed z v.t → Sequenced z l b v.u
+    → None v.a (λ e. Any 1 (Reversed z l e))
