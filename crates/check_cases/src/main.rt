@@ -3,95 +3,59 @@
 // its words; the order table's answer with room for three words, and these.
 #![tactic(auto)]
 
+ghost use Rattle.std.specs.Prelude.{◌≤◌, length};
+
 use std::io;
 use std::io::Read;
 
-// Prints the words before the first that is 7, with which the table was filled.
-fn print_words(rt: &impl Print, l: &[u64]) -> io::Result<()> {
-    for x in l {
-        if *x == 7 {
-            return Ok(());
-        }
-        printing::number(rt, *x)?;
+// Judges with a lent buffer and prints its first entries: as many as the evidence has, and at least so many.
+fn print_check(
+    rt: &impl Print,
+    s: &[u8],
+    name: &[u8],
+    ev: &mut [u16],
+    least: usize,
+) -> io::Result<()>
+    requires { least ≤ length ev.old }
+{
+    let v = judge::check::check(s, ev);
+    printing::text(rt, name)?;
+    printing::verdict(rt, v.answer, v.count, &ev[..v.count.max(least)])
+}
+
+// Prints the order table's answer and the words before the first that is 7, with which the lent table is filled.
+fn print_order(rt: &impl Print, s: &[u8], name: &[u8], out: &mut [u64]) -> io::Result<()> {
+    let answer = table::order_table(s, out);
+    printing::text(rt, name)?;
+    printing::number(rt, answer)?;
+    for word in out.iter().take_while(|x| **x != 7) {
+        printing::number(rt, *word)?;
     }
-    Ok(())
-}
-
-fn print_check(rt: &impl Print, s: &[u8]) -> io::Result<()> {
-    let mut ev = [9u16; 65];
-    let v = judge::check::check(s, &mut ev);
-    printing::text(rt, b"check")?;
-    printing::verdict(rt, v.answer, v.count, &ev, v.count)
-}
-
-fn print_short(rt: &impl Print, s: &[u8]) -> io::Result<()> {
-    let mut ev = [9u16; 64];
-    let v = judge::check::check(s, &mut ev);
-    printing::text(rt, b"short")?;
-    printing::verdict(rt, v.answer, v.count, &ev, 1)
-}
-
-fn print_order(rt: &impl Print, s: &[u8]) -> io::Result<()> {
-    let mut out = [7u64; 64];
-    let a = table::order_table(s, &mut out);
-    printing::text(rt, b"order")?;
-    printing::short(rt, a)?;
-    print_words(rt, &out)?;
-    printing::text(rt, b"\n")
-}
-
-fn print_tight(rt: &impl Print, s: &[u8]) -> io::Result<()> {
-    let mut out = [7u64; 3];
-    let a = table::order_table(s, &mut out);
-    printing::text(rt, b"tight")?;
-    printing::short(rt, a)?;
-    print_words(rt, &out)?;
     printing::text(rt, b"\n")
 }
 
 fn print_all(rt: &impl Print, s: &[u8]) -> io::Result<()> {
-    print_check(rt, s)?;
-    print_short(rt, s)?;
-    print_order(rt, s)?;
-    print_tight(rt, s)
+    print_check(rt, s, b"check", &mut [9; 65], 0)?;
+    print_check(rt, s, b"short", &mut [9; 64], 1)?;
+    print_order(rt, s, b"order", &mut [7; 64])?;
+    print_order(rt, s, b"tight", &mut [7; 3])
 }
 
-// Judges the first k bytes.
-fn print_part(rt: &impl Print, s: &[u8], k: usize) -> io::Result<()> {
-    if k <= s.len() {
-        print_all(rt, &s[..k])?;
-    }
-    Ok(())
-}
-
-// Reads one record and judges it; false at the end.
-fn judge_next(
-    rt: &impl Print,
-    input: &mut impl Read,
-    head: &mut [u8],
-    buf: &mut [u8],
-) -> io::Result<bool> {
-    if printing::read_full(input, head) < 2 {
-        return Ok(false);
-    }
-    let k = form::bytes::count_at(head, 0);
-    if buf.len() < k {
-        return Ok(false);
-    }
-    if printing::read_full(input, &mut buf[..k]) < k {
-        return Ok(false);
-    }
-    print_part(rt, buf, k)?;
-    Ok(true)
+// The next record, read into the buffer; none at the end.
+fn next_record<'a>(input: &mut impl Read, buf: &'a mut [u8]) -> Option<&'a [u8]> {
+    let mut head = [0u8; 2];
+    printing::read_part(input, &mut head, 2)?;
+    printing::read_part(input, buf, form::bytes::count_at(&head, 0))
 }
 
 fn main(rt: HostRuntime) -> io::Result<()> {
     let mut input = rt.stdin();
     let mut buf = [0u8; 4096];
-    let mut head = [0u8; 2];
+    // A loop has to end, and the input need not: at most so many records are read.
     for _ in 0..1000000 {
-        if !judge_next(&rt, &mut input, &mut head, &mut buf)? {
-            return Ok(());
+        match next_record(&mut input, &mut buf) {
+            Some(record) => print_all(&rt, record)?,
+            None => return Ok(()),
         }
     }
     Ok(())

@@ -3,13 +3,14 @@
 
 ghost use Rattle.std.specs.Prelude.{◌≤◌, ◌<◌, length};
 
+use rows::Set;
 use std::io;
 
 // The number that a digit stands for.
 fn digit(b: u8) -> usize
     ensures { result < 16 }
 {
-    (b % 16) as usize
+    usize::from(b % 16)
 }
 
 // Prints the numbers below n.
@@ -27,8 +28,9 @@ fn print_shown(rt: &impl Print, name: &[u8], t: &[u64], n: usize) -> io::Result<
     let mut out = [0u16; 64];
     printing::text(rt, name)?;
     printing::text(rt, b": shown")?;
-    let k = cycles::show(t, n, &mut out);
-    printing::list(rt, &out, k)?;
+    if let Some(k) = cycles::show(t, n, &mut out) {
+        printing::list(rt, &out[..k])?;
+    }
     printing::text(rt, b", expected")
 }
 
@@ -73,7 +75,7 @@ fn put_order(t: &mut [u64])
     requires { 64 ≤ length t.old }
 {
     for a in 0..64 {
-        rows::add(t, a, rows::minus(rows::full(64), rows::full(a + 1)));
+        rows::add(t, a, Set::full(64) - Set::full(a + 1));
     }
 }
 

@@ -3,9 +3,10 @@
 // what it is lent. A failed read ends the input; a failed write is handed back as its error.
 #![tactic(auto)]
 
-ghost use Rattle.std.specs.Prelude.{◌≤◌, length, take};
+ghost use Rattle.std.specs.Prelude.{◌≡◌, ◌≤◌, IfSome, length, take};
 ghost use Rattle.std.specs.Io.KnownBytes.{Consumes};
 
+use std::fmt::Display;
 use std::io;
 use std::io::Read;
 
@@ -16,6 +17,7 @@ pub fn read_full<R: Read>(input: &mut R, buf: &mut [u8]) -> usize
     ensures bytes { Consumes (R.remaining input.old) (R.remaining input.new) (take result buf.new) }
 {
     let mut k = 0;
+    // How far k goes is the reads' to say: no range counts that.
     while k < buf.len() {
         match input.read(&mut buf[k..]) {
             Ok(n) if 0 < n => k += n,
@@ -25,44 +27,45 @@ pub fn read_full<R: Read>(input: &mut R, buf: &mut [u8]) -> usize
     k
 }
 
+// Reads the next k bytes into the buffer and hands these back; none where the buffer has no room for them or the input ends before.
+pub fn read_part<'a, R: Read>(input: &mut R, buf: &'a mut [u8], k: usize) -> Option<&'a [u8]>
+    ensures whole { IfSome result (λ part. length part.now ≡ k) }
+    ensures bytes { IfSome result (λ part. Consumes (R.remaining input.old) (R.remaining input.new) part.now) }
+{
+    let part = buf.get_mut(..k)?;
+    if read_full(input, part) < k {
+        return None;
+    }
+    Some(part)
+}
+
 // Prints the bytes as they are.
 pub fn text(rt: &impl Print, s: &[u8]) -> io::Result<()> {
     rt.write_all(s)
 }
 
 // Prints a number in decimal.
-pub fn decimal(rt: &impl Print, x: u64) -> io::Result<()> {
+pub fn decimal(rt: &impl Print, x: impl Display + Drop) -> io::Result<()> {
     print!(rt; "{x}")
 }
 
 // Prints a space and a number in decimal.
-pub fn number(rt: &impl Print, x: u64) -> io::Result<()> {
+pub fn number(rt: &impl Print, x: impl Display + Drop) -> io::Result<()> {
     print!(rt; " {x}")
 }
 
-// Prints a space and a number of 16 bits in decimal.
-pub fn short(rt: &impl Print, x: u16) -> io::Result<()> {
-    print!(rt; " {x}")
-}
-
-// Prints the first k numbers, each behind a space.
-pub fn list(rt: &impl Print, l: &[u16], k: usize) -> io::Result<()> {
-    for x in l.iter().take(k) {
-        short(rt, *x)?;
+// Prints the numbers, each behind a space.
+pub fn list(rt: &impl Print, numbers: &[u16]) -> io::Result<()> {
+    for x in numbers {
+        number(rt, *x)?;
     }
     Ok(())
 }
 
-// Prints an answer, how many entries of evidence it has, the first k entries of the buffer, and ends the line.
-pub fn verdict(
-    rt: &impl Print,
-    answer: u16,
-    count: usize,
-    evidence: &[u16],
-    k: usize,
-) -> io::Result<()> {
-    short(rt, answer)?;
-    number(rt, count as u64)?;
-    list(rt, evidence, k)?;
+// Prints an answer, how many entries of evidence it has, some entries, and ends the line.
+pub fn verdict(rt: &impl Print, answer: u16, count: usize, evidence: &[u16]) -> io::Result<()> {
+    number(rt, answer)?;
+    number(rt, count)?;
+    list(rt, evidence)?;
     text(rt, b"\n")
 }

@@ -1,83 +1,59 @@
 // Lines of words that are parted by one space, for any bytes.
-ghost use Rattle.std.specs.Prelude.{◌<◌, ◌≤◌, length};
+ghost use Rattle.std.specs.Prelude.{length};
+ghost use Rattle.std.specs.Iterator.{at_most};
 
-// The byte at i, or 0 past the end.
-pub fn letter(s: &[u8], i: usize) -> u8 {
-    if i < s.len() { s[i] } else { 0 }
+// A line, as all the text from its first byte on, and the text behind it.
+#[derive(Clone, Copy)]
+pub struct Line<'a> {
+    pub text: &'a [u8],
+    pub rest: &'a [u8],
 }
 
-// The first place, from i on, of a space, a newline or the end.
-pub fn word_end(s: &[u8], i: usize) -> usize {
-    let mut j = i;
-    while j < s.len() {
-        if s[j] == b' ' || s[j] == b'\n' {
-            return j;
+impl<'a> Line<'a> {
+    // Its first letter; of an empty line that is the newline behind it.
+    pub fn letter(self) -> Option<u8> {
+        self.text.first().copied()
+    }
+
+    // Whether that is its first letter.
+    pub fn begins_with(self, letter: u8) -> bool {
+        self.letter() == Some(letter)
+    }
+
+    // The k-th word, the first being 0. A word that the line lacks is one of the lines behind it; nothing where there are none.
+    pub fn word(self, k: usize) -> &'a [u8] {
+        let mut words = self.text.split(|b| *b == b' ' || *b == b'\n');
+        words.nth(k).unwrap_or(&[])
+    }
+
+    // The number that the k-th word begins with: as many digits as there are.
+    pub fn number(self, k: usize) -> u32 {
+        let digits = self
+            .word(k)
+            .iter()
+            .map_while(|b| char::from(*b).to_digit(10));
+        digits.fold(0, |v, d| (v % 100000000 * 10).wrapping_add(d))
+    }
+}
+
+// The lines of a text.
+#[derive(Clone, Copy)]
+pub struct Lines<'a>(pub &'a [u8]);
+
+impl<'a> Iterator for Lines<'a> {
+    type Item = Line<'a>;
+
+    ghost remaining = { λ s. at_most (length s.0.now) };
+
+    fn next(&mut self) -> Option<Line<'a>> {
+        if self.0.is_empty() {
+            return None;
         }
-        j += 1;
+        let text = self.0;
+        let mut parts = text.splitn(2, |b| *b == b'\n');
+        parts.next()?;
+        let rest = parts.next().unwrap_or(&[]);
+        self.0 = rest;
+        Some(Line { text, rest })
     }
-    j
-}
-
-// Where the word behind the one at i begins.
-fn next_word(s: &[u8], i: usize) -> usize {
-    let j = word_end(s, i);
-    if j < s.len() { j + 1 } else { j }
-}
-
-// Where the k-th word of the line at i begins, its first being 0.
-pub fn word(s: &[u8], i: usize, k: usize) -> usize {
-    let mut j = i;
-    let mut left = k;
-    while 0 < left {
-        j = next_word(s, j);
-        left -= 1;
-    }
-    j
-}
-
-// Where the line behind the one at i begins.
-pub fn next_line(s: &[u8], i: usize) -> usize
-    ensures { i < length s.now → (i < result) × (result ≤ length s.now) }
-{
-    let mut j = i;
-    while j < s.len() {
-        if s[j] == b'\n' {
-            return j + 1;
-        }
-        j += 1;
-    }
-    j
-}
-
-// What the digit c counts, or 10 where it is none.
-fn digit(c: u8) -> u32
-    ensures { result ≤ 10 }
-{
-    if c < b'0' {
-        return 10;
-    }
-    if b'9' < c {
-        return 10;
-    }
-    (c - b'0') as u32
-}
-
-// The number at i: as many digits as there are.
-fn number(s: &[u8], i: usize) -> u32 {
-    let mut v: u32 = 0;
-    let mut j = i;
-    while j < s.len() {
-        let d = digit(s[j]);
-        if d == 10 {
-            return v;
-        }
-        v = v % 100000000 * 10 + d;
-        j += 1;
-    }
-    v
-}
-
-// The number that is the k-th word of the line at i.
-pub fn field(s: &[u8], i: usize, k: usize) -> u32 {
-    number(s, word(s, i, k))
 }

@@ -2,9 +2,8 @@
 // sections 2 and 4: a line each, with the answer, how many entries its evidence has, and these.
 #![tactic(auto)]
 
-ghost use Rattle.std.specs.Prelude.{◌≤◌, ◌<◌};
+ghost use Rattle.std.specs.Prelude.{◌≤◌, length};
 
-use form::Step;
 use std::io;
 
 const S1: [u8; 102] = [
@@ -19,21 +18,21 @@ fn print_examined(rt: &impl Print, name: &[u8], number: usize, s: &[u8]) -> io::
     let mut ev = [0u16; 65];
     let v = structure::examine::examine(s, &mut ev);
     printing::text(rt, name)?;
-    printing::number(rt, number as u64)?;
-    printing::verdict(rt, v.answer, v.count, &ev, v.count)
+    printing::number(rt, number)?;
+    printing::verdict(rt, v.answer, v.count, &ev[..v.count])
 }
 
 // One line: what reading answers.
 fn print_read(rt: &impl Print, name: &[u8], number: usize, s: &[u8]) -> io::Result<()> {
     printing::text(rt, name)?;
-    printing::number(rt, number as u64)?;
+    printing::number(rt, number)?;
     match form::whole::whole(s) {
-        Step::Stop(f) => {
-            printing::short(rt, f.answer)?;
+        Err(f) => {
+            printing::number(rt, f.answer)?;
             printing::number(rt, 1)?;
-            printing::short(rt, f.section)?;
+            printing::number(rt, f.section)?;
         }
-        Step::Next(_) => {
+        Ok(_) => {
             printing::number(rt, 0)?;
             printing::number(rt, 0)?;
         }
@@ -48,41 +47,37 @@ fn print_cuts(rt: &impl Print, s: &[u8]) -> io::Result<()> {
     Ok(())
 }
 
-fn print_damaged(rt: &impl Print, i: usize) -> io::Result<()>
-    requires { i < 102 }
-{
-    let mut t = S1;
-    t[i] = 255;
-    print_examined(rt, b"byte", i, &t)
-}
-
 fn print_all_damaged(rt: &impl Print) -> io::Result<()> {
-    for i in 0..102 {
-        print_damaged(rt, i)?;
+    for i in 0..S1.len() {
+        let mut t = S1;
+        t[i] = 255;
+        print_examined(rt, b"byte", i, &t)?;
     }
     Ok(())
 }
 
-// One processor with n loads of address 0 by its instruction 0, which is named g times as locked: all bytes but these are 0.
-fn print_limit(rt: &impl Print, name: &[u8], number: usize, n: usize, g: usize) -> io::Result<()>
+// Writes one processor with n loads of address 0 by its instruction 0, which is named g times as locked: all bytes but these stay 0.
+// Hands back the length.
+fn put_limit(t: &mut [u8], n: u8, g: u8) -> usize
+    requires { (n ≤ 65) × (g ≤ 17) × (1024 ≤ length t.old) }
+    ensures { result ≤ 1024 }
+{
+    t[0] = 1;
+    t[1] = 1;
+    t[2] = n;
+    let four = 6 + 12 * usize::from(n);
+    t[four] = g;
+    let nine = four + 10 + 4 * usize::from(g);
+    t[nine] = 1;
+    nine + 4
+}
+
+fn print_limit(rt: &impl Print, name: &[u8], number: usize, n: u8, g: u8) -> io::Result<()>
     requires { (n ≤ 65) × (g ≤ 17) }
 {
     let mut t = [0u8; 1024];
-    t[0] = 1;
-    t[1] = 1;
-    t[2] = n as u8;
-    t[6 + 12 * n] = g as u8;
-    let nine = 4 + 12 * n + 12 + 4 * g;
-    t[nine] = 1;
-    print_part(rt, name, number, &t, nine + 4)
-}
-
-// Reads the first k bytes.
-fn print_part(rt: &impl Print, name: &[u8], number: usize, s: &[u8], k: usize) -> io::Result<()> {
-    if k <= s.len() {
-        print_read(rt, name, number, &s[..k])?;
-    }
-    Ok(())
+    let k = put_limit(&mut t, n, g);
+    print_read(rt, name, number, &t[..k])
 }
 
 fn main(rt: HostRuntime) -> io::Result<()> {

@@ -5,153 +5,109 @@
 // few, and its first byte.
 #![tactic(auto)]
 
+ghost use Rattle.std.specs.Prelude.{◌≤◌, length};
+
 use std::io;
 use std::io::Read;
 
-fn wide_byte(x: u8) -> u64 {
-    x as u64
-}
-
-// Prints the bytes from `from` up to and with the one at `to`.
-fn print_bytes(rt: &impl Print, s: &[u8], from: usize, to: usize) -> io::Result<()> {
-    for (i, x) in s.iter().enumerate() {
-        if to < i {
-            return Ok(());
-        }
-        if from <= i {
-            printing::number(rt, wide_byte(*x))?;
-        }
+// Prints the bytes from `from` up to and with the one at `to`, each behind a space, and ends the line.
+fn print_bytes(rt: &impl Print, bytes: &[u8], from: usize, to: usize) -> io::Result<()>
+    requires { to ≤ length bytes.now }
+{
+    for x in bytes.iter().take(to + 1).skip(from) {
+        printing::number(rt, *x)?;
     }
-    Ok(())
+    printing::text(rt, b"\n")
 }
 
-fn print_replay(rt: &impl Print, s: &[u8], list: &[u16]) -> io::Result<()> {
-    let mut ev = [9u16; 65];
-    let v = replay::replay::replay(s, list, &mut ev);
-    printing::text(rt, b"replay")?;
-    printing::verdict(rt, v.answer, v.count, &ev, v.count)
+// Replays with a lent buffer and prints its first entries: as many as the evidence has, and at least so many.
+fn print_replay(
+    rt: &impl Print,
+    s: &[u8],
+    list: &[u16],
+    name: &[u8],
+    ev: &mut [u16],
+    least: usize,
+) -> io::Result<()>
+    requires { least ≤ length ev.old }
+{
+    let v = replay::replay::replay(s, list, ev);
+    printing::text(rt, name)?;
+    printing::verdict(rt, v.answer, v.count, &ev[..v.count.max(least)])
 }
 
-fn print_short(rt: &impl Print, s: &[u8], list: &[u16]) -> io::Result<()> {
-    let mut ev = [9u16; 64];
-    let v = replay::replay::replay(s, list, &mut ev);
-    printing::text(rt, b"short")?;
-    printing::verdict(rt, v.answer, v.count, &ev, 1)
-}
-
+// As check_cases prints it: the crate that both print with stands on no judge.
 fn print_check(rt: &impl Print, s: &[u8]) -> io::Result<()> {
     let mut ev = [9u16; 65];
     let v = judge::check::check(s, &mut ev);
     printing::text(rt, b"check")?;
-    printing::verdict(rt, v.answer, v.count, &ev, v.count)
+    printing::verdict(rt, v.answer, v.count, &ev[..v.count])
 }
 
-// Judges the first k bytes.
-fn check_part(rt: &impl Print, s: &[u8], k: usize) -> io::Result<()> {
-    if k <= s.len() {
-        print_check(rt, &s[..k])?;
+// Prints the read-off's answer and length, its witness with the byte behind it, and the check of what was read off; of what was not read
+// off, the first byte.
+fn print_read_off(
+    rt: &impl Print,
+    s: &[u8],
+    list: &[u16],
+    name: &[u8],
+    out: &mut [u8],
+) -> io::Result<()> {
+    let v = readoff::read_off::read_off(s, list, out);
+    printing::text(rt, name)?;
+    printing::number(rt, v.answer)?;
+    printing::number(rt, v.count)?;
+    if v.answer != 0 {
+        return print_bytes(rt, out, 0, 0);
     }
-    Ok(())
-}
-
-fn print_read_off(rt: &impl Print, s: &[u8], list: &[u16]) -> io::Result<()> {
-    let mut out = [7u8; 2347];
-    let v = readoff::read_off::read_off(s, list, &mut out);
-    let k = v.count;
-    printing::text(rt, b"off")?;
-    printing::short(rt, v.answer)?;
-    printing::number(rt, k as u64)?;
-    if v.answer == 0 {
-        print_bytes(rt, &out, form::place::start(s, 6), k)?;
-        printing::text(rt, b"\n")?;
-        check_part(rt, &out, k)
-    } else {
-        print_bytes(rt, &out, 0, 0)?;
-        printing::text(rt, b"\n")
-    }
-}
-
-fn print_tight(rt: &impl Print, s: &[u8], list: &[u16]) -> io::Result<()> {
-    let mut out = [7u8; 2345];
-    let v = readoff::read_off::read_off(s, list, &mut out);
-    printing::text(rt, b"tight")?;
-    printing::short(rt, v.answer)?;
-    printing::number(rt, v.count as u64)?;
-    print_bytes(rt, &out, 0, 0)?;
-    printing::text(rt, b"\n")
+    print_bytes(rt, out, form::place::start(s, 6), v.count)?;
+    print_check(rt, &out[..v.count])
 }
 
 fn print_case(rt: &impl Print, s: &[u8], list: &[u16]) -> io::Result<()> {
     printing::text(rt, b"record")?;
-    printing::number(rt, s.len() as u64)?;
+    printing::number(rt, s.len())?;
     printing::text(rt, b" list")?;
-    printing::list(rt, list, list.len())?;
+    printing::list(rt, list)?;
     printing::text(rt, b"\n")
 }
 
 fn print_all(rt: &impl Print, s: &[u8], list: &[u16]) -> io::Result<()> {
     print_case(rt, s, list)?;
-    print_replay(rt, s, list)?;
-    print_short(rt, s, list)?;
-    print_read_off(rt, s, list)?;
-    print_tight(rt, s, list)
+    print_replay(rt, s, list, b"replay", &mut [9; 65], 0)?;
+    print_replay(rt, s, list, b"short", &mut [9; 64], 1)?;
+    print_read_off(rt, s, list, b"off", &mut [7; 2347])?;
+    print_read_off(rt, s, list, b"tight", &mut [7; 2345])
 }
 
-// Reads numbers of two bytes each, at most 80.
-fn read_list(s: &[u8], list: &mut [u16]) {
-    for (i, x) in list.iter_mut().take(80).enumerate() {
-        *x = (form::bytes::count_at(s, 2 * i) % 65536) as u16;
+// The numbers of two bytes each, in the first entries of the buffer; none if they are more than it has room for.
+fn read_list<'a>(bytes: &[u8], buffer: &'a mut [u16]) -> Option<&'a [u16]> {
+    let (pairs, _) = bytes.as_chunks::<2>();
+    for (x, pair) in buffer.iter_mut().zip(pairs) {
+        *x = u16::from_le_bytes(*pair);
     }
+    buffer.get(..pairs.len())
 }
 
-// Replays the record by the first m numbers.
-fn print_by(rt: &impl Print, s: &[u8], list: &[u16], m: usize) -> io::Result<()> {
-    if m <= list.len() {
-        print_all(rt, s, &list[..m])?;
-    }
-    Ok(())
-}
-
-// Replays the first k bytes by the m numbers behind them.
-fn print_part(rt: &impl Print, s: &[u8], k: usize, m: usize) -> io::Result<()> {
-    let mut list = [0u16; 80];
-    if k <= s.len() {
-        read_list(&s[k..], &mut list);
-        print_by(rt, &s[..k], &list, m)?;
-    }
-    Ok(())
-}
-
-// Reads one case and replays it; false at the end.
-fn replay_next(
-    rt: &impl Print,
-    input: &mut impl Read,
-    head: &mut [u8],
-    buf: &mut [u8],
-) -> io::Result<bool> {
-    if printing::read_full(input, head) < 4 {
-        return Ok(false);
-    }
-    let k = form::bytes::count_at(head, 0);
-    let m = form::bytes::count_at(head, 2);
-    let all = k + 2 * m;
-    if buf.len() < all {
-        return Ok(false);
-    }
-    if printing::read_full(input, &mut buf[..all]) < all {
-        return Ok(false);
-    }
-    print_part(rt, buf, k, m)?;
-    Ok(true)
+// The next record and the bytes of its list, read into the buffer; none at the end.
+fn next_case<'a>(input: &mut impl Read, buf: &'a mut [u8]) -> Option<(&'a [u8], &'a [u8])> {
+    let mut head = [0u8; 4];
+    printing::read_part(input, &mut head, 4)?;
+    let k = form::bytes::count_at(&head, 0);
+    let m = form::bytes::count_at(&head, 2);
+    printing::read_part(input, buf, k + 2 * m)?.split_at_checked(k)
 }
 
 fn main(rt: HostRuntime) -> io::Result<()> {
     let mut input = rt.stdin();
     let mut buf = [0u8; 4096];
-    let mut head = [0u8; 4];
+    // A loop has to end, and the input need not: at most so many cases are read.
     for _ in 0..1000000 {
-        if !replay_next(&rt, &mut input, &mut head, &mut buf)? {
+        let Some((record, bytes)) = next_case(&mut input, &mut buf) else {
             return Ok(());
+        };
+        if let Some(list) = read_list(bytes, &mut [0; 80]) {
+            print_all(&rt, record, list)?;
         }
     }
     Ok(())

@@ -1,147 +1,29 @@
 // The questions. What a question is asked with is read first, then what is expected; the expected entries go into a buffer that has the
-// mark too, so that all entries are compared.
-use crate::{input, tally};
-use reader::Item;
+// mark too, so that all entries are compared. A question that lists or lends more entries than the buffers here hold cannot be asked: it
+// has no answer and no entries.
+use crate::input;
+use crate::tally::{Operation, Tally};
+use reader::Entry;
 use record::Verdict;
 use std::io::Read;
 
-// ---- buffers that are the same
+// The marks of the buffers for numbers, bytes and words.
+const SHORT: u16 = 48879;
 
-fn same_shorts(x: &[u16; 80], y: &[u16; 80]) -> bool {
-    x == y
+const BYTE: u8 = 165;
+
+const WORD: u64 = 11936128518282651045;
+
+// The input that the questions are read from, and how they were answered.
+#[derive(Drop)]
+pub struct Questions<R> {
+    pub input: R,
+    pub tally: Tally,
 }
 
-fn same_words(x: &[u64; 70], y: &[u64; 70]) -> bool {
-    x == y
-}
-
-// Whether x is as long as the part of y that ends at k, and the same.
-fn same_bytes(x: &[u8], y: &[u8], k: usize) -> bool {
-    k <= y.len() && x == &y[..k]
-}
-
-// ---- the check and the replay
-
-fn check(s: &[u8], evidence: &mut [u16], room: usize) -> Verdict {
-    if room <= evidence.len() {
-        judge::check::check(s, &mut evidence[..room])
-    } else {
-        Verdict {
-            answer: 64,
-            count: 0,
-        }
-    }
-}
-
-fn replay(s: &[u8], list: &[u16], m: usize, evidence: &mut [u16], room: usize) -> Verdict {
-    if m <= list.len() && room <= evidence.len() {
-        replay::replay::replay(s, &list[..m], &mut evidence[..room])
-    } else {
-        Verdict {
-            answer: 64,
-            count: 0,
-        }
-    }
-}
-
-// Holds what came out to what is expected next.
-fn hold(
-    input: &mut impl Read,
-    v: Verdict,
-    evidence: &[u16; 80],
-    operation: usize,
-    sums: &mut [u64; 448],
-) {
-    let answer = input::short(input);
-    let k = input::number(input);
-    let mut due = [48879u16; 80];
-    input::shorts(input, &mut due, k);
-    let right = v.answer == answer && v.count == k && same_shorts(evidence, &due);
-    tally::count(sums, operation, answer, right);
-}
-
-fn ask_check(input: &mut impl Read, s: &[u8], sums: &mut [u64; 448]) {
-    let room = input::number(input);
-    let mut evidence = [48879u16; 80];
-    let v = check(s, &mut evidence, room);
-    hold(input, v, &evidence, 1, sums);
-}
-
-fn ask_replay(input: &mut impl Read, s: &[u8], sums: &mut [u64; 448]) {
-    let m = input::number(input);
-    let mut list = [0u16; 80];
-    input::shorts(input, &mut list, m);
-    let room = input::number(input);
-    let mut evidence = [48879u16; 80];
-    let v = replay(s, &list, m, &mut evidence, room);
-    hold(input, v, &evidence, 2, sums);
-}
-
-// ---- the read-off
-
-fn read_off(s: &[u8], list: &[u16], m: usize, out: &mut [u8], room: usize) -> Verdict {
-    if m <= list.len() && room <= out.len() {
-        readoff::read_off::read_off(s, &list[..m], &mut out[..room])
-    } else {
-        Verdict {
-            answer: 64,
-            count: 0,
-        }
-    }
-}
-
-fn ask_read_off(input: &mut impl Read, s: &[u8], sums: &mut [u64; 448]) {
-    let m = input::number(input);
-    let mut list = [0u16; 80];
-    input::shorts(input, &mut list, m);
-    let room = input::number(input);
-    let mut out = [165u8; 2400];
-    let v = read_off(s, &list, m, &mut out, room);
-    let answer = input::short(input);
-    let k = input::number(input);
-    let mut due = [165u8; 2400];
-    input::bytes(input, &mut due, k);
-    let right = v.answer == answer && v.count == k && same_bytes(&out, &due, 2400);
-    tally::count(sums, 3, answer, right);
-}
-
-// ---- the order table
-
-fn order_table(s: &[u8], table: &mut [u64], room: usize) -> u16 {
-    if room <= table.len() {
-        table::order_table(s, &mut table[..room])
-    } else {
-        64
-    }
-}
-
-fn ask_table(input: &mut impl Read, s: &[u8], sums: &mut [u64; 448]) {
-    let room = input::number(input);
-    let mut table = [11936128518282651045u64; 70];
-    let given = order_table(s, &mut table, room);
-    let answer = input::short(input);
-    let k = input::number(input);
-    let mut due = [11936128518282651045u64; 70];
-    input::words(input, &mut due, k);
-    tally::count(sums, 4, answer, given == answer && same_words(&table, &due));
-}
-
-// ---- the view question and the reader
-
-fn ask_view(input: &mut impl Read, s: &[u8], sums: &mut [u64; 448]) {
-    let p = input::short(input);
-    let mut given: u16 = 64;
-    let part = record::view::view(s, p, &mut given);
-    let answer = input::short(input);
-    let k = input::number(input);
-    let mut due = [0u8; 64];
-    input::bytes(input, &mut due, k);
-    tally::count(
-        sums,
-        5,
-        answer,
-        given == answer && same_bytes(part, &due, k),
-    );
+// The answer and the count; of what could not be asked, none and 0.
+fn parts(given: Option<Verdict>) -> (Option<u16>, usize) {
+    given.map_or((None, 0), |v| (Some(v.answer), v.count))
 }
 
 // Whether the next k entries of the part are the expected ones, and then there is none.
@@ -149,49 +31,126 @@ fn same_items(input: &mut impl Read, part: &[u8], k: usize) -> bool {
     let mut right = true;
     let mut at: usize = 0;
     for _ in 0..k {
-        let section = input::short(input);
-        let place = input::number(input);
-        let length = input::number(input);
-        match reader::item_at(part, at) {
-            Item::Entry {
-                section: q,
-                at: from,
-                len,
-            } => {
-                right = right && q == section && from == place && len == length;
-            }
-            Item::Done => {
-                right = false;
-            }
+        let due = Entry {
+            section: input::short(input),
+            at: input::number(input),
+            len: input::number(input),
+        };
+        right = right && reader::item_at(part, at) == Some(due);
+        at = due.at.wrapping_add(due.len);
+    }
+    right && reader::item_at(part, at).is_none()
+}
+
+impl<R: Read> Questions<R> {
+    // The expected answer and count, which are next.
+    fn due(&mut self) -> (Option<u16>, usize) {
+        let answer = input::answer(&mut self.input);
+        (answer, input::number(&mut self.input))
+    }
+
+    // Holds what came out to what is expected next.
+    fn hold(&mut self, operation: Operation, given: Option<Verdict>, evidence: &[u16; 80]) {
+        let (answer, k) = self.due();
+        let mut due = [SHORT; 80];
+        input::shorts(&mut self.input, &mut due, k);
+        let right = parts(given) == (answer, k) && *evidence == due;
+        self.tally.count_answer(operation, answer, right);
+    }
+
+    fn ask_check(&mut self, s: &[u8]) {
+        let room = input::number(&mut self.input);
+        let mut evidence = [SHORT; 80];
+        let given = evidence
+            .get_mut(..room)
+            .map(|lent| judge::check::check(s, lent));
+        self.hold(Operation::Check, given, &evidence);
+    }
+
+    fn ask_replay(&mut self, s: &[u8]) {
+        let m = input::number(&mut self.input);
+        let mut numbers = [0u16; 80];
+        let list = input::shorts(&mut self.input, &mut numbers, m);
+        let room = input::number(&mut self.input);
+        let mut evidence = [SHORT; 80];
+        let given = list.and_then(|list| {
+            let lent = evidence.get_mut(..room)?;
+            Some(replay::replay::replay(s, list, lent))
+        });
+        self.hold(Operation::Replay, given, &evidence);
+    }
+
+    fn ask_read_off(&mut self, s: &[u8]) {
+        let m = input::number(&mut self.input);
+        let mut numbers = [0u16; 80];
+        let list = input::shorts(&mut self.input, &mut numbers, m);
+        let room = input::number(&mut self.input);
+        let mut out = [BYTE; 2400];
+        let given = list.and_then(|list| {
+            let lent = out.get_mut(..room)?;
+            Some(readoff::read_off::read_off(s, list, lent))
+        });
+        let (answer, k) = self.due();
+        let mut due = [BYTE; 2400];
+        input::bytes(&mut self.input, &mut due, k);
+        let right = parts(given) == (answer, k) && out == due;
+        self.tally.count_answer(Operation::ReadOff, answer, right);
+    }
+
+    fn ask_table(&mut self, s: &[u8]) {
+        let room = input::number(&mut self.input);
+        let mut table = [WORD; 70];
+        let given = table
+            .get_mut(..room)
+            .map(|lent| table::order_table(s, lent));
+        let (answer, k) = self.due();
+        let mut due = [WORD; 70];
+        input::words(&mut self.input, &mut due, k);
+        let right = given == answer && table == due;
+        self.tally.count_answer(Operation::Table, answer, right);
+    }
+
+    fn ask_view(&mut self, s: &[u8]) {
+        let p = input::short(&mut self.input);
+        let (given, part) = match record::view::view(s, p) {
+            Ok(part) => (0, part),
+            Err(refusal) => (refusal.answer(), &s[..0]),
+        };
+        let (answer, k) = self.due();
+        let mut due = [0u8; 64];
+        input::bytes(&mut self.input, &mut due, k);
+        let right = Some(given) == answer && due.get(..k) == Some(part);
+        self.tally.count_answer(Operation::View, answer, right);
+    }
+
+    fn ask_reader(&mut self, s: &[u8]) {
+        let (given, part) = match reader::opened(s) {
+            Ok(part) => (0, part),
+            Err(fault) => (fault.answer, &s[..0]),
+        };
+        let (answer, k) = self.due();
+        let same = same_items(&mut self.input, part, k);
+        let right = Some(given) == answer && same;
+        self.tally.count_answer(Operation::Reader, answer, right);
+    }
+
+    // Asks the next question.
+    fn ask(&mut self, s: &[u8]) {
+        match Operation::numbered(input::byte(&mut self.input)) {
+            Some(Operation::Check) => self.ask_check(s),
+            Some(Operation::Replay) => self.ask_replay(s),
+            Some(Operation::ReadOff) => self.ask_read_off(s),
+            Some(Operation::Table) => self.ask_table(s),
+            Some(Operation::View) => self.ask_view(s),
+            Some(Operation::Reader) => self.ask_reader(s),
+            None => self.tally.count(false),
         }
-        at = place.wrapping_add(length);
     }
-    match reader::item_at(part, at) {
-        Item::Entry { .. } => false,
-        Item::Done => right,
-    }
-}
 
-fn ask_reader(input: &mut impl Read, s: &[u8], sums: &mut [u64; 448]) {
-    let mut given: u16 = 64;
-    let part = reader::opened(s, &mut given);
-    let answer = input::short(input);
-    let k = input::number(input);
-    let right = same_items(input, part, k);
-    tally::count(sums, 6, answer, given == answer && right);
-}
-
-// Asks the next question.
-pub fn ask(input: &mut impl Read, s: &[u8], sums: &mut [u64; 448]) {
-    match input::byte(input) {
-        1 => ask_check(input, s, sums),
-        2 => ask_replay(input, s, sums),
-        3 => ask_read_off(input, s, sums),
-        4 => ask_table(input, s, sums),
-        5 => ask_view(input, s, sums),
-        6 => ask_reader(input, s, sums),
-        _ => {
-            tally::count(sums, 0, 64, false);
+    // Asks the questions about the record, after their number.
+    pub fn ask_all(&mut self, s: &[u8]) {
+        for _ in 0..input::number(&mut self.input) {
+            self.ask(s);
         }
     }
 }

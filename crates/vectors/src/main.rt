@@ -4,46 +4,41 @@
 //
 // A record's length in two bytes and its bytes, how many questions follow in two bytes, then these: the operation in one byte, what it is
 // asked with, the answer, the count, and as many entries. Before a call all entries have a mark; those behind the count keep it.
+// An expected answer of 64 stands for none, as where the question cannot be asked.
 #![tactic(auto)]
 
+use ask::Questions;
 use printing::read_full;
 use std::io;
 use std::io::Read;
+use tally::Tally;
 
 mod ask;
 mod input;
 mod tally;
 
-// Asks the k questions about the record that are next.
-fn ask_all(input: &mut impl Read, s: &[u8], k: usize, sums: &mut [u64; 448]) {
-    for _ in 0..k {
-        ask::ask(input, s, sums);
-    }
-}
-
-// Reads a record into the buffer and asks what is asked about it; false at the end.
-fn ask_next(input: &mut impl Read, record: &mut [u8], sums: &mut [u64; 448]) -> bool {
+// Reads a record into the buffer; none at the end.
+fn next_record<'a>(input: &mut impl Read, buffer: &'a mut [u8]) -> Option<&'a [u8]> {
     let mut two = [0u8; 2];
     if read_full(input, &mut two) < 2 {
-        return false;
+        return None;
     }
-    let k = form::bytes::count_at(&two, 0);
-    if record.len() < k {
-        return false;
-    }
-    read_full(input, &mut record[..k]);
-    let questions = input::number(input);
-    ask_all(input, &record[..k], questions, sums);
-    true
+    let part = buffer.get_mut(..form::bytes::count_at(&two, 0))?;
+    read_full(input, part);
+    Some(part)
 }
 
 fn main(rt: HostRuntime) -> io::Result<()> {
-    let mut input = rt.stdin();
-    let mut record = [0u8; 4096];
-    let mut sums = [0u64; 448];
+    let mut buffer = [0u8; 4096];
+    let mut questions = Questions {
+        input: rt.stdin(),
+        tally: Tally::new(),
+    };
+    // A loop has to end, and the input need not: at most so many records are read.
     for _ in 0..1000000 {
-        if !ask_next(&mut input, &mut record, &mut sums) {
-            return tally::print(&rt, &sums);
+        match next_record(&mut questions.input, &mut buffer) {
+            Some(record) => questions.ask_all(record),
+            None => return questions.tally.print(&rt),
         }
     }
     Ok(())

@@ -1,55 +1,109 @@
-// How often each answer was expected of each operation: at 64 times the operation, plus the answer. Of what has no operation, 0 counts
-// the questions that were answered otherwise than expected, and 1 all.
-ghost use Rattle.std.specs.Prelude.{◌≤◌};
-
+// What was asked and how it was answered.
 use std::io;
 
-fn one_more(sums: &mut [u64; 448], i: usize) {
-    if i < 448 {
-        sums[i] = sums[i].wrapping_add(1);
-    }
+// The operations, as the input numbers them from 1 on.
+#[derive(Clone, Copy)]
+pub enum Operation {
+    Check,
+    Replay,
+    ReadOff,
+    Table,
+    View,
+    Reader,
 }
 
-// One more question, of which `answer` was expected.
-pub fn count(sums: &mut [u64; 448], operation: usize, answer: u16, right: bool) {
-    one_more(sums, 1);
-    if !right {
-        one_more(sums, 0);
-    }
-    if operation < 7 && answer < 64 {
-        one_more(sums, 64 * operation + answer as usize);
-    }
-}
+impl Operation {
+    // All, in the order of their numbers.
+    pub const ALL: [Operation; 6] = [
+        Operation::Check,
+        Operation::Replay,
+        Operation::ReadOff,
+        Operation::Table,
+        Operation::View,
+        Operation::Reader,
+    ];
 
-fn print_line(rt: &impl Print, name: &[u8], answer: u64, often: u64) -> io::Result<()> {
-    printing::text(rt, name)?;
-    printing::number(rt, answer)?;
-    printing::number(rt, often)?;
-    printing::text(rt, b"\n")
-}
-
-// The lines of an operation, whose sums stand from `from` on.
-fn print_lines(rt: &impl Print, sums: &[u64; 448], name: &[u8], from: usize) -> io::Result<()>
-    requires { from ≤ 384 }
-{
-    for a in 0..64 {
-        let often = sums[from + a];
-        if 0 < often {
-            print_line(rt, name, a as u64, often)?;
+    // The operation with this number.
+    pub fn numbered(number: u8) -> Option<Operation> {
+        match number {
+            1 => Some(Operation::Check),
+            2 => Some(Operation::Replay),
+            3 => Some(Operation::ReadOff),
+            4 => Some(Operation::Table),
+            5 => Some(Operation::View),
+            6 => Some(Operation::Reader),
+            _ => None,
         }
     }
-    Ok(())
+
+    fn name(self) -> &'static [u8] {
+        match self {
+            Operation::Check => b"check",
+            Operation::Replay => b"replay",
+            Operation::ReadOff => b"read-off",
+            Operation::Table => b"order-table",
+            Operation::View => b"view",
+            Operation::Reader => b"reader",
+        }
+    }
 }
 
-pub fn print(rt: &impl Print, sums: &[u64; 448]) -> io::Result<()> {
-    print_lines(rt, sums, b"check", 64)?;
-    print_lines(rt, sums, b"replay", 128)?;
-    print_lines(rt, sums, b"read-off", 192)?;
-    print_lines(rt, sums, b"order-table", 256)?;
-    print_lines(rt, sums, b"view", 320)?;
-    print_lines(rt, sums, b"reader", 384)?;
-    printing::decimal(rt, sums[1])?;
-    printing::text(rt, b" cases,")?;
-    printing::number(rt, sums[0])?;
-    printing::text(rt, b" differ\n")
+// How many questions there were, how many of them were answered otherwise than expected, and how often each answer was expected of each
+// operation.
+#[derive(Drop)]
+pub struct Tally {
+    cases: u64,
+    differing: u64,
+    expected: [[u64; 64]; 6],
+}
+
+impl Tally {
+    pub fn new() -> Tally {
+        Tally {
+            cases: 0,
+            differing: 0,
+            expected: [[0; 64]; 6],
+        }
+    }
+
+    // One more question.
+    pub fn count(&mut self, right: bool) {
+        self.cases = self.cases.wrapping_add(1);
+        if !right {
+            self.differing = self.differing.wrapping_add(1);
+        }
+    }
+
+    // One more question about an operation, of which this answer was expected.
+    pub fn count_answer(&mut self, operation: Operation, answer: Option<u16>, right: bool) {
+        self.count(right);
+        let row = &mut self.expected[operation as usize];
+        if let Some(often) = answer.and_then(|a| row.get_mut(usize::from(a))) {
+            *often = often.wrapping_add(1);
+        }
+    }
+
+    // The lines of an operation.
+    fn print_lines(&self, rt: &impl Print, operation: Operation) -> io::Result<()> {
+        let row = &self.expected[operation as usize];
+        for (answer, often) in row.iter().enumerate() {
+            if 0 < *often {
+                printing::text(rt, operation.name())?;
+                printing::number(rt, answer)?;
+                printing::number(rt, *often)?;
+                printing::text(rt, b"\n")?;
+            }
+        }
+        Ok(())
+    }
+
+    pub fn print(&self, rt: &impl Print) -> io::Result<()> {
+        for operation in Operation::ALL {
+            self.print_lines(rt, operation)?;
+        }
+        printing::decimal(rt, self.cases)?;
+        printing::text(rt, b" cases,")?;
+        printing::number(rt, self.differing)?;
+        printing::text(rt, b" differ\n")
+    }
 }

@@ -1,0 +1,106 @@
+// A record that is being written: bytes, one behind the other as far as there is room.
+ghost use Rattle.std.specs.Prelude.{◌<◌, ◌≤◌, ◌^◌};
+ghost use Rattle.std.specs.Iterator.{IsFinite};
+
+// The bytes from `from` to before `to`.
+#[derive(Clone, Copy, Default)]
+pub struct Part {
+    from: usize,
+    to: usize,
+}
+
+// What has been written stands in the first `len` bytes. Behind it stands what was taken back, and then zeros.
+#[derive(Clone, Copy)]
+pub struct Draft {
+    bytes: [u8; 512],
+    len: usize,
+    ghost within: { len ≤ 512 },
+}
+
+impl Draft {
+    // Nothing is written yet.
+    pub fn new() -> Draft {
+        Draft {
+            bytes: [0; 512],
+            len: 0,
+        }
+    }
+
+    // How many bytes have been written.
+    pub fn len(&self) -> usize {
+        self.len
+    }
+
+    // What has been written.
+    pub fn as_slice(&self) -> &[u8] {
+        &self.bytes[..self.len]
+    }
+
+    // What has been written, and what stands behind it.
+    pub fn all(&self) -> &[u8] {
+        &self.bytes
+    }
+
+    // Takes back what has been written behind the first `len` bytes.
+    pub fn truncate(&mut self, len: usize) {
+        self.len = self.len.min(len);
+    }
+
+    // Writes bytes; those are lost for which there is no room.
+    pub fn write(&mut self, bytes: &[u8]) {
+        for byte in bytes {
+            if let Some(place) = self.bytes.get_mut(self.len) {
+                *place = *byte;
+                self.len += 1;
+            }
+        }
+    }
+
+    // Writes how many items there are, whether or not there is room for them, and the items; they stand in the part that is handed
+    // back.
+    pub fn write_list<const N: usize, I: Iterator<Item = [u8; N]> + Drop>(
+        &mut self,
+        items: I,
+    ) -> Part
+        requires small { N < 2 ^ 63 }
+        requires can { I.can_next items }
+        requires ends { IsFinite (I.remaining items) }
+    {
+        let start = self.len;
+        self.write(&[0, 0]);
+        let from = self.len;
+        let mut count: u16 = 0;
+        for item in items {
+            self.write(&item);
+            count = count.wrapping_add(1);
+        }
+        let to = self.len;
+        self.len = start;
+        self.write(&count.to_le_bytes());
+        self.len = to;
+        Part { from, to }
+    }
+
+    // Takes the numbers of a part to their next arrangement; false where they go back to their first.
+    pub fn turn(&mut self, part: Part) -> bool {
+        if part.from <= part.to && part.to <= self.bytes.len() {
+            return arrangements::next(&mut self.bytes[part.from..part.to]);
+        }
+        false
+    }
+
+    // The same for several parts, the last of them going first.
+    pub fn turn_all(&mut self, parts: &[Part]) -> bool {
+        for part in parts.iter().rev() {
+            if self.turn(*part) {
+                return true;
+            }
+        }
+        false
+    }
+
+    // The bytes of a part; none where it is not within the draft.
+    pub fn part(&self, part: Part) -> &[u8] {
+        self.bytes.get(part.from..part.to).unwrap_or(&[])
+    }
+}

@@ -1,4 +1,0 @@
-use Rattle.published_tests.proofs.text.word.Given as goal
-
-abbrev pub decreases-loop-left : goal.decreases-loop-left
-decreases-loop-left l = l.left
