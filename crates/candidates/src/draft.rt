@@ -1,5 +1,5 @@
 // A record that is being written: bytes, one behind the other as far as there is room.
-ghost use Rattle.std.specs.Prelude.{◌<◌, ◌≤◌, ◌^◌};
+ghost use Rattle.std.specs.Prelude.{◌≡◌, ◌+◌, ◌<◌, ◌≤◌, ◌^◌, min, length};
 ghost use Rattle.std.specs.Iterator.{IsFinite};
 
 // The bytes from `from` to before `to`.
@@ -19,7 +19,9 @@ pub struct Draft {
 
 impl Draft {
     // Nothing is written yet.
-    pub fn new() -> Draft {
+    pub fn new() -> Draft
+        ensures { result.len ≡ 0 }
+    {
         Draft {
             bytes: [0; 512],
             len: 0,
@@ -27,27 +29,29 @@ impl Draft {
     }
 
     // How many bytes have been written.
-    pub fn len(&self) -> usize {
+    pub(crate) fn len(&self) -> usize {
         self.len
     }
 
     // What has been written.
-    pub fn as_slice(&self) -> &[u8] {
+    pub(crate) fn as_slice(&self) -> &[u8] {
         &self.bytes[..self.len]
     }
 
     // What has been written, and what stands behind it.
-    pub fn all(&self) -> &[u8] {
+    pub(crate) fn all(&self) -> &[u8] {
         &self.bytes
     }
 
     // Takes back what has been written behind the first `len` bytes.
-    pub fn truncate(&mut self, len: usize) {
+    pub(crate) fn truncate(&mut self, len: usize) {
         self.len = self.len.min(len);
     }
 
     // Writes bytes; those are lost for which there is no room.
-    pub fn write(&mut self, bytes: &[u8]) {
+    pub fn write(&mut self, bytes: &[u8])
+        ensures { self.new.len ≡ min 512 (self.old.len + length bytes.now) }
+    {
         for byte in bytes {
             if let Some(place) = self.bytes.get_mut(self.len) {
                 *place = *byte;
@@ -65,6 +69,7 @@ impl Draft {
         requires small { N < 2 ^ 63 }
         requires can { I.can_next items }
         requires ends { IsFinite (I.remaining items) }
+        ensures { min 512 (self.old.len + 2) ≤ self.new.len }
     {
         let start = self.len;
         self.write(&[0, 0]);
@@ -82,7 +87,7 @@ impl Draft {
     }
 
     // Takes the numbers of a part to their next arrangement; false where they go back to their first.
-    pub fn turn(&mut self, part: Part) -> bool {
+    pub(crate) fn turn(&mut self, part: Part) -> bool {
         if part.from <= part.to && part.to <= self.bytes.len() {
             return arrangements::next(&mut self.bytes[part.from..part.to]);
         }
@@ -90,7 +95,7 @@ impl Draft {
     }
 
     // The same for several parts, the last of them going first.
-    pub fn turn_all(&mut self, parts: &[Part]) -> bool {
+    pub(crate) fn turn_all(&mut self, parts: &[Part]) -> bool {
         for part in parts.iter().rev() {
             if self.turn(*part) {
                 return true;
@@ -100,7 +105,7 @@ impl Draft {
     }
 
     // The bytes of a part; none where it is not within the draft.
-    pub fn part(&self, part: Part) -> &[u8] {
+    pub(crate) fn part(&self, part: Part) -> &[u8] {
         self.bytes.get(part.from..part.to).unwrap_or(&[])
     }
 }

@@ -1,6 +1,6 @@
 // The candidate witnesses of a structure: section 6 with the stores, section 7 with the locked entries and each view with the events
 // that are seen, each once, in every order; section 8 with at most one source for each load, of its place and value.
-// Promises nothing about what is counted: each function ends and stays within the record, for any bytes.
+// Promises how far a draft is written, and nothing about what is counted: each function ends and stays within the record, for any bytes.
 #![tactic(auto)]
 
 use crate::draft::{Draft, Part};
@@ -9,7 +9,8 @@ use crate::events::Structure;
 pub mod draft;
 mod events;
 
-// How many candidates were judged and how many got 0; and whether something else came up, so that nothing can be said.
+// How many candidates were judged and how many got 0; and whether something else came up, so that nothing can be said: no value goes
+// with that.
 #[derive(Clone, Copy, Default)]
 pub struct Tally {
     pub judged: u64,

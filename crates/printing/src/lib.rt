@@ -3,7 +3,7 @@
 // what it is lent. A failed read ends the input; a failed write is handed back as its error.
 #![tactic(auto)]
 
-ghost use Rattle.std.specs.Prelude.{◌≡◌, ◌≤◌, IfSome, length, take};
+ghost use Rattle.std.specs.Prelude.{◌≡◌, ◌<◌, ◌≤◌, IfSome, IsNone, length, take};
 ghost use Rattle.std.specs.Io.KnownBytes.{Consumes};
 
 use std::fmt::Display;
@@ -29,6 +29,7 @@ pub fn read_full<R: Read>(input: &mut R, buf: &mut [u8]) -> usize
 
 // Reads the next k bytes into the buffer and hands these back; none where the buffer has no room for them or the input ends before.
 pub fn read_part<'a, R: Read>(input: &mut R, buf: &'a mut [u8], k: usize) -> Option<&'a [u8]>
+    ensures room { length buf.old < k → IsNone result }
     ensures whole { IfSome result (λ part. length part.now ≡ k) }
     ensures bytes { IfSome result (λ part. Consumes (R.remaining input.old) (R.remaining input.new) part.now) }
 {
