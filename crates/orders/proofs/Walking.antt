@@ -15,7 +15,7 @@ use Rattle.rows.proofs.Table.{adds_none, adds_as, adds_then}
 use Rattle.record.specs.Execution.{Items}
 use Rattle.model.specs.Model.{Before}
 use Rattle.orders.specs.Groups.{BeforeIn}
-use Rattle.orders.specs.Walks.{Walked}
+use Rattle.orders.specs.Walks.{Itself, Walked}
 
 -- the places from i on are walked: `later` has what stands there, and u is t with the steps from each to what stands after it
 pub record Walking (Of To : ℕ → Set → Type 0) (l : Items ℕ) (i : ℕ) (later : Set) (t u : List ℕ) : Type 0 where
@@ -209,6 +209,10 @@ module _ (Of To : ℕ → Set → Type 0) (l : Items ℕ) (t : List ℕ) where
         p.adds;
   }
 
+-- the steps from an event alone
+pub add_one : (u v : List ℕ) (e : ℕ) (x s : Set) → Itself e x → Adds u v (λ a b. (a ≡ e) × In s b) → Adds u v (λ a b. In x a × In s b)
+add_one u v e x s i d = adds_as u v _ _ (λ a b (p, q). (i.has a p, q)) (λ a b (p, q). (i.says a p, q)) d
+
 -- the order of what the items stand for, as far as M has it
 pub walked_is : (Of To : ℕ → Set → Type 0) (l : Items ℕ) (t u : List ℕ) → Walked Of To l t u → (R : ℕ → ℕ → Type 0) (M : Rel)
     → ((j : ℕ) (s : Set) → j < l.size → Of (l.item j) s → Is s (R (l.item j)))
@@ -241,6 +245,10 @@ walked_events Of To l t u w M f g =
 -- steps to every event below 64 are all steps
 abbrev pub Every : Rel
 Every a b = b < 64
+
+-- a set and all events below 64 have its members in common
+pub is_within : (s all : Set) → Is all (λ b. b < 64) → Is s (λ b. In s b × In all b)
+is_within s all f = record { says = λ b m. (m, f.has b (in_low s b m)); has = λ b q. q.0 }
 
 pub adds_every : (t u : List ℕ) (P : Rel) → ((a b : ℕ) → P a b → b < 64) → Adds t u (λ a b. P a b × Every a b) → Adds t u P
 adds_every t u P f d = adds_as t u _ _ (λ a b q. q.0) (λ a b q. (q, f a b q)) d

@@ -176,6 +176,26 @@ out_same w v h = bit_xor_lem w (2 ^ v) v ∙ ap₂ differ h (bit_pow_same v)
 pub out_other : (w v k : ℕ) → (k ≡ v → ⊥) → bit (bit_xor w (2 ^ v)) k ≡ bit w k
 out_other w v k ne = bit_xor_lem w (2 ^ v) k ∙ ap (differ (bit w k)) (bit_pow_other v k ne) ∙ differ_zero (bit w k)
 
+-- w - 1, where v is the least in w: v is out, and those above stay
+pub less_same : (v w : ℕ) → On w v → ((k : ℕ) → k < v → bit w k ≡ 0) → bit (w - 1) v ≡ 0
+less_same zero w h f = bit_zero (w - 1) ∙ omega (arith, sym (bit_zero w) ∙ h)
+less_same (suc v) w h f =
+    let even : w % 2 ≡ 0 = sym (bit_zero w) ∙ f 0 (omega arith) in
+    let half : (w - 1) / 2 ≡ w / 2 - 1 = omega (arith, on_pos w (suc v) h) in
+    bit_suc (w - 1) v ∙ ap (λ (x : ℕ). bit x v) half ∙ less_same v (w / 2) (sym (bit_suc w v) ∙ h) (λ k l. sym (bit_suc w k) ∙ f (suc k) (omega arith))
+
+pub less_above : (v w j : ℕ) → On w v → ((k : ℕ) → k < v → bit w k ≡ 0) → v < j → bit (w - 1) j ≡ bit w j
+less_above v w zero h f l = absurd (omega arith)
+less_above zero w (suc j) h f l =
+    let odd : w % 2 ≡ 1 = sym (bit_zero w) ∙ h in
+    let half : (w - 1) / 2 ≡ w / 2 = omega arith in
+    bit_suc (w - 1) j ∙ ap (λ (x : ℕ). bit x j) half ∙ sym (bit_suc w j)
+less_above (suc v) w (suc j) h f l =
+    let even : w % 2 ≡ 0 = sym (bit_zero w) ∙ f 0 (omega arith) in
+    let half : (w - 1) / 2 ≡ w / 2 - 1 = omega (arith, on_pos w (suc v) h) in
+    bit_suc (w - 1) j ∙ ap (λ (x : ℕ). bit x j) half ∙ less_above v (w / 2) j (sym (bit_suc w v) ∙ h) (λ k m. sym (bit_suc w k) ∙ f (suc k) (omega arith)) (omega arith)
+    ∙ sym (bit_suc w j)
+
 -- a set with v in it too
 pub on_or : (x y k : ℕ) → On x k ⊎ On y k → On (bit_or x y) k
 on_or x y k (inl h) = omega (arith, bit_or_lem x y k, bit_lt y k)

@@ -18,7 +18,7 @@ use Rattle.order.specs.Least.{Hit, Least, Counted}
 use Rattle.order.proofs.Numbers.{counted_as}
 use Rattle.rows.specs.Members.{bit, In, Is, Member, Meet, Greatest}
 use Rattle.rows.specs.declared.Set.{Set}
-use Rattle.rows.proofs.Bits.{On, bit_lt, bit_mod, bit_of_zero, dec_on, ext, bit_and_lem, bit_xor_lem, differ_zero, test_bit, bit_pow_same, trailing_first, ones_counted, on_pos, some_on, out_same, out_other, on_or, or_on, on_and, and_on, pow_on, on_full, on_lt, leading_last, mirror}
+use Rattle.rows.proofs.Bits.{On, bit_lt, bit_mod, bit_of_zero, dec_on, ext, bit_and_lem, bit_xor_lem, differ_zero, test_bit, bit_pow_same, trailing_first, ones_counted, on_pos, some_on, out_same, out_other, less_same, less_above, on_or, or_on, on_and, and_on, pow_on, on_full, on_lt, leading_last, mirror}
 
 abbrev pub word : ℕ → Set
 word w = record { word = w }
@@ -190,6 +190,34 @@ module _ (w k : ℕ) (i : In (word w) k) where
       says : (j : ℕ) → (j < 64) × On (bit_xor w (2 ^ k)) j → Dec (j ≡ k) → ((j < 64) × On w j) × (j ≡ k → ⊥)
       says j h (yes e) = let q : On (bit_xor w (2 ^ k)) k = rw e at h.1 in absurd (omega (arith, out_same w k i.1))
       says j h (no g) = ((h.0, sym (out_other w k j g) ∙ h.1), g)
+
+pub member_pos : (w : ℕ) → Member (word w) → 0 < w
+unfolding In
+member_pos w (k, p) = on_pos w k p.1
+
+-- w & (w - 1), where k is the least member
+module _ (w k : ℕ) (i : Least (In (word w)) k) where
+  pub is_without_first : Is (word (bit_and w (w - 1))) (λ j. In (word w) j × (j ≡ k → ⊥))
+  unfolding In
+  is_without_first = record {
+    says = λ j h. let b = and_on w (w - 1) j h.1 in
+        ((h.0, b.0), λ e. let z : bit (w - 1) j ≡ 0 = rw e (less_same k w i.0.1 below) in omega (arith, b.1));
+    has = λ j s. (s.0.0, on_and w (w - 1) j s.0.1 (less_above k w j i.0.1 below (after j s.0 s.1) ∙ s.0.1));
+  }
+    where
+      below : (j : ℕ) → j < k → bit w j ≡ 0
+      below j l = go (dec_on w j)
+        where
+          go : Dec (On w j) → bit w j ≡ 0
+          go (yes p) = let b = i.0.0 in absurd (i.1 j l (omega arith, p))
+          go (no g) = omega (arith, bit_lt w j)
+
+      after : (j : ℕ) → (j < 64) × On w j → (j ≡ k → ⊥) → k < j
+      after j m g = go (dec_lt j k)
+        where
+          go : Dec (j < k) → k < j
+          go (yes l) = absurd (i.1 j l m)
+          go (no h) = omega arith
 
 pub size_counted : (w : ℕ) → w < 2 ^ 64 → Counted 64 (In (word w)) (ones w)
 unfolding In

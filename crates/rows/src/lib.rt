@@ -2,10 +2,10 @@
 // Promises: what each makes of the members of sets and of the pairs of relations. No crate above looks into a word.
 #![tactic(auto)]
 
-ghost use Rattle.std.specs.Prelude.{◌≡◌, ◌⊎◌, ◌<◌, ◌≤◌, ◌++◌, ◌%◌, ◌^◌, take, drop, MatchOption};
+ghost use Rattle.std.specs.Prelude.{◌≡◌, ℕ, ◌⊎◌, ◌<◌, ◌≤◌, ◌++◌, ◌%◌, ◌^◌, take, drop, MatchOption};
 ghost use Rattle.std.specs.Iterator.{at_most};
 ghost use Rattle.order.specs.Decides.{Decides};
-ghost use Rattle.order.specs.Least.{Found, Counted};
+ghost use Rattle.order.specs.Least.{Least, Found, Counted};
 ghost use Rattle.rows.specs.Members.{In, Is, Member, Meet, Greatest, Takes};
 ghost use Rattle.rows.specs.Table.{HasRow, HasRows, rel, Adds};
 
@@ -76,6 +76,16 @@ impl Set {
     {
         Set {
             word: self.word ^ (1u64 << k),
+        }
+    }
+
+    // The members but the least. One less than the word differs from it in the least member and in what stands below that alone.
+    fn without_first(self) -> Set
+        requires { Member self }
+        ensures { (k : ℕ) → Least (In self) k → Is result (λ j. In self j × (j ≡ k → ⊥)) }
+    {
+        Set {
+            word: self.word & (self.word - 1),
         }
     }
 
@@ -163,7 +173,7 @@ impl Iterator for Ascending {
 
     fn next(&mut self) -> Option<usize> {
         let k = self.rest.first()?;
-        self.rest = self.rest.without(k);
+        self.rest = self.rest.without_first();
         Some(k)
     }
 }

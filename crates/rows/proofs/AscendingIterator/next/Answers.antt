@@ -7,7 +7,7 @@ returns-in_err-k-clause-steps c = rw c.from_residual.ensures (λ m. c.in_err-k.e
 
 pub returns-clause-goes : goal.returns-clause-goes
 returns-clause-goes c = record {
-  on = λ f. (search rules, search rules, rest_less _ _ _ c.in_ok-k.ensures.1.0 c.without-self.ensures);
+  on = λ f. let i = c.in_ok-k.ensures.1 in let w = c.without_first-self.ensures _ i in (search rules, search rules, rest_less _ _ _ i.0 w);
   keeps = search rules;
   rests = search rules;
 }
