@@ -10,15 +10,6 @@ pub enum Kind {
     Neither,
 }
 
-// An event: its processor, its kind, and its address and value.
-#[derive(Clone, Copy)]
-pub struct Event {
-    pub processor: u8,
-    pub kind: Kind,
-    pub place: u32,
-    pub value: u32,
-}
-
 // The record that a structure stands in.
 #[derive(Clone, Copy)]
 pub struct Structure<'a> {
@@ -52,32 +43,56 @@ impl<'a> Structure<'a> {
         self.bytes.get(at).copied().unwrap_or(0)
     }
 
-    // Event e. Behind the last event it is what the bytes there spell.
-    pub fn event(self, e: u8) -> Event {
-        let byte = |k| self.event_byte(e, k);
-        Event {
-            processor: byte(0),
-            kind: match byte(1) {
-                0 => Kind::Load,
-                1 => Kind::Store,
-                _ => Kind::Neither,
-            },
-            place: u32::from_le_bytes([byte(4), byte(5), byte(6), byte(7)]),
-            value: u32::from_le_bytes([byte(8), byte(9), byte(10), byte(11)]),
+    // The four bytes of event e from k on, as a number.
+    fn event_word(self, e: u8, k: u8) -> u32 {
+        let byte = |i| self.event_byte(e, k.wrapping_add(i));
+        u32::from_le_bytes([byte(0), byte(1), byte(2), byte(3)])
+    }
+
+    // What event e is. Here and below: behind the last event it is what the bytes there spell.
+    fn kind(self, e: u8) -> Kind {
+        match self.event_byte(e, 1) {
+            0 => Kind::Load,
+            1 => Kind::Store,
+            _ => Kind::Neither,
         }
+    }
+
+    // The stores, ascending: how many there are, and their numbers in as many entries from the first on.
+    pub fn stores(self) -> (usize, [u8; 64]) {
+        let mut count = 0;
+        let mut stores = [0; 64];
+        for e in 0..self.events() {
+            if matches!(self.kind(e), Kind::Store)
+                && let Some(place) = stores.get_mut(count)
+            {
+                *place = e;
+                count += 1;
+            }
+        }
+        (count, stores)
+    }
+
+    // The address of event e.
+    pub fn place(self, e: u8) -> u32 {
+        self.event_word(e, 4)
+    }
+
+    // The value of event e.
+    pub fn value(self, e: u8) -> u32 {
+        self.event_word(e, 8)
     }
 
     // Whether processor p sees event e. A processor that there is not sees the stores.
     pub fn sees(self, p: u8, e: u8) -> bool {
-        let event = self.event(e);
-        matches!(event.kind, Kind::Store) || event.processor == p
+        matches!(self.kind(e), Kind::Store) || self.event_byte(e, 0) == p
     }
 
-    // Whether w is a store and r a load, of one address and value.
+    // Whether w is a store and r a load, of one address and value. Most pairs differ in what is asked first, so no event is spelled whole.
     pub fn fits(self, w: u8, r: u8) -> bool {
-        let (w, r) = (self.event(w), self.event(r));
-        matches!((w.kind, r.kind), (Kind::Store, Kind::Load))
-            && w.place == r.place
-            && w.value == r.value
+        matches!(self.kind(w), Kind::Store)
+            && matches!(self.kind(r), Kind::Load)
+            && self.place(w) == self.place(r)
+            && self.value(w) == self.value(r)
     }
 }

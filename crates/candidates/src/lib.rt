@@ -3,6 +3,8 @@
 // Promises how far a draft is written, and nothing about what is counted: each function ends and stays within the record, for any bytes.
 #![tactic(auto)]
 
+ghost use Rattle.std.specs.Prelude.{◌<◌, ◌^◌};
+
 use crate::draft::{Draft, Part};
 use crate::events::Structure;
 
@@ -85,21 +87,23 @@ impl Tally {
 }
 
 // A candidate: its structure, the sources of its loads, its record, in which sections 6 and 9 begin at `six` and `nine`, and the lists in
-// that which are arranged. The next candidate is written over it, and leaves what stands behind.
+// that which are arranged; `fresh` says that section 9 stands, each view at its first arrangement. The next candidate is written over it,
+// and leaves what stands behind.
 #[derive(Drop)]
-struct Candidate<'a> {
+struct Candidate<'a, const N: usize> {
     structure: Structure<'a>,
     sources: Sources,
-    record: Draft,
+    record: Draft<N>,
     six: usize,
     nine: usize,
     orders: [Part; 2],
     views: [Part; 4],
+    fresh: bool,
 }
 
-impl<'a> Candidate<'a> {
+impl<'a, const N: usize> Candidate<'a, N> {
     // Sections 0 to 5, and no sources.
-    fn new(sections: &'a Draft) -> Candidate<'a> {
+    fn new(sections: &'a Draft<N>) -> Candidate<'a, N> {
         Candidate {
             structure: Structure::new(sections.all()),
             sources: [None; 64],
@@ -108,6 +112,7 @@ impl<'a> Candidate<'a> {
             nine: sections.len(),
             orders: [Part::default(); 2],
             views: [Part::default(); 4],
+            fresh: false,
         }
     }
 
@@ -131,10 +136,15 @@ impl<'a> Candidate<'a> {
             .write_list(loads.filter_map(|(w, r)| w.map(|w| [w, r])));
         self.nine = self.record.len();
         self.orders = [stores, locks];
+        self.fresh = false;
     }
 
-    // Section 9, each view at its first arrangement.
+    // Section 9, each view at its first arrangement; where it stands so already, nothing is done: most orders end in another value, and no
+    // view is tried with them.
     fn place_views(&mut self) {
+        if self.fresh {
+            return;
+        }
         let processors = self.structure.processors();
         self.record.truncate(self.nine);
         self.record.write(&u16::from(processors).to_le_bytes());
@@ -144,6 +154,7 @@ impl<'a> Candidate<'a> {
                 *place = view;
             }
         }
+        self.fresh = true;
     }
 
     // Whether the last store in section 6 to the address that the outcome names has the value that it names.
@@ -152,10 +163,9 @@ impl<'a> Candidate<'a> {
         self.record
             .part(stores)
             .iter()
-            .map(|e| self.structure.event(*e))
-            .filter(|event| event.place == last.place)
+            .filter(|e| self.structure.place(**e) == last.place)
             .last()
-            .is_some_and(|event| event.value == last.value)
+            .is_some_and(|e| self.structure.value(*e) == last.value)
     }
 
     // Judges every arrangement of the views.
@@ -188,6 +198,7 @@ impl<'a> Candidate<'a> {
         if outcome.last.is_some_and(|last| !self.ends_with(last)) {
             return;
         }
+        self.fresh = false;
         match outcome.trial {
             Trial::All => self.try_all(tally),
             Trial::ByView => self.try_views(tally),
@@ -206,10 +217,11 @@ impl<'a> Candidate<'a> {
     // the last event too.
     fn choose(&mut self) -> bool {
         let structure = Structure::new(self.record.all());
-        let events = structure.events();
+        let (count, stores) = structure.stores();
         for (source, r) in self.sources.iter_mut().zip(0..64u8).rev() {
             let from = source.map_or(0, |w| w.saturating_add(1));
-            *source = (from..events).find(|w| structure.fits(*w, r));
+            let mut later = stores.iter().take(count).copied().filter(|w| from <= *w);
+            *source = later.find(|w| structure.fits(*w, r));
             if source.is_some() {
                 return true;
             }
@@ -219,7 +231,9 @@ impl<'a> Candidate<'a> {
 }
 
 // Tries the candidates of the structure whose sections 0 to 5 are written, and adds them up.
-pub fn run(sections: &Draft, outcome: Outcome, tally: &mut Tally) {
+pub fn run<const N: usize>(sections: &Draft<N>, outcome: Outcome, tally: &mut Tally)
+    requires { N < 2 ^ 62 }
+{
     let mut candidate = Candidate::new(sections);
     tally.take_turns(|tally| {
         candidate.place_orders();

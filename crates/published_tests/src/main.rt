@@ -29,12 +29,12 @@ impl Found {
         }
     }
 
-    // Its name in print.
+    // Its name in print, between two spaces: it goes out in one write.
     fn name(self) -> &'static [u8] {
         match self {
-            Found::Open => b"open",
-            Found::Allowed => b"allowed",
-            Found::Forbidden => b"forbidden",
+            Found::Open => b" open ",
+            Found::Allowed => b" allowed ",
+            Found::Forbidden => b" forbidden ",
         }
     }
 
@@ -53,9 +53,7 @@ fn print_test(rt: &impl Print, head: Line, tally: Tally) -> io::Result<()> {
     printing::text(rt, head.word(1))?;
     printing::number(rt, tally.judged)?;
     printing::number(rt, tally.valid)?;
-    printing::text(rt, b" ")?;
     printing::text(rt, Found::of(tally).name())?;
-    printing::text(rt, b" ")?;
     printing::text(rt, head.word(2))?;
     printing::text(rt, b"\n")
 }

@@ -65,7 +65,7 @@ fn final_value(line: Line) -> Option<Final> {
 }
 
 // Sections 0 to 5.
-fn sections(structure: Structure) -> Draft {
+fn sections(structure: Structure) -> Draft<512> {
     let processor = structure.filter_map(event).map(|[p, ..]| p % 4 + 1).max();
     let mut sections = Draft::new();
     sections.write(&[1, processor.unwrap_or(0)]);
