@@ -1,16 +1,16 @@
 -- Bytes and digits that are written behind one another, and how long a number's text is at most.
 use Prim.Native.Nat.{ℕ, zero, suc, ◌+◌, ◌*◌, ◌/◌, ◌%◌, ◌<◌, ◌≤◌}
-use mathlib.Core.Path.{◌≡◌, refl, ap}
+use mathlib.Core.Path.{◌≡◌, refl, ap, ◌∙◌}
 use mathlib.Core.Bool.{Bool, true, false}
 use mathlib.Core.List.{List, [], ◌∷◌, ◌++◌, append_assoc, append-nil}
 use native.Mathlib.Omega.{arith}
 use native.Mathlib.Numerals.{add-one}
 use borrow.Author.Tests.{lt-ltb, le-ltb}
 use lib.Dec.{ltb}
-use lib.ListN.{length, take, set, get_or, length-append}
+use lib.ListN.{length, take, set, get_or, length-append, length-set}
 use lib.Seq.{length-take-le, take-suc}
 use Rattle.lent.specs.Put.{PutTo}
-use Rattle.lent.proofs.Puts.{put_nothing, put_next, put_then}
+use Rattle.lent.proofs.Puts.{put_nothing, put_next, put_then, put_length}
 use Rattle.listing.specs.Text.{digit_by, digit_at, decimal, spaced}
 
 pub to_then : (b m c x y : List ℕ) (at z k : ℕ) → PutTo b at x m z → PutTo m z y c k → PutTo b at (x ++ y) c k
@@ -83,10 +83,31 @@ pub record Room (b : List ℕ) (at j : ℕ) (m : List ℕ) (z : ℕ) : Type 0 wh
   pub upto : z ≤ at + j
   pub same : length m ≡ length b
 
+pub room_none : (b : List ℕ) (at : ℕ) → Room b at 0 b at
+room_none b at = record { upto = omega arith; same = refl }
+
+pub room_byte : (b : List ℕ) (at x : ℕ) → Room b at 1 (set b at x) (at + 1)
+room_byte b at x = record { upto = omega arith; same = length-set b at x }
+
+module _ {b m n : List ℕ} {at j z k : ℕ} where
+  -- at most d bytes more
+  pub room_then : (w : List ℕ) (d : ℕ) → length w ≤ d → Room b at j m z → PutTo m z w n k → Room b at (j + d) n k
+  room_then w d h r (q, e) = record { upto = omega arith; same = put_length m n w z q ∙ r.same }
+
+  pub room_digit : (p x : ℕ) → Room b at j m z → PutTo m z (digit_at p x) n k → Room b at (j + 1) n k
+  room_digit p x r q = room_then (digit_at p x) 1 (digit_length p x) r q
+
 pub spaced_length : (l : List ℕ) → length (spaced l) ≤ 6 * length l
 unfolding spaced
 spaced_length [] = omega arith
 spaced_length (x ∷ l) = omega (arith, length-append (32 ∷ decimal x) (spaced l), decimal_length x, spaced_length l)
+
+module _ {b m n : List ℕ} {at j z k : ℕ} where
+  pub room_number : (x : ℕ) → Room b at j m z → PutTo m z (32 ∷ decimal x) n k → Room b at (j + 6) n k
+  room_number x r q = room_then (32 ∷ decimal x) 6 (omega (arith, decimal_length x)) r q
+
+  pub room_numbers : (l : List ℕ) (i : ℕ) → i ≤ length l → Room b at j m z → PutTo m z (spaced (take i l)) n k → Room b at (j + 6 * i) n k
+  room_numbers l i h r q = room_then (spaced (take i l)) (6 * i) (omega (arith, spaced_length (take i l), length-take-le i l h)) r q
 
 spaced_more : (l : List ℕ) (x : ℕ) → spaced (l ++ x ∷ []) ≡ spaced l ++ (32 ∷ decimal x)
 unfolding spaced

@@ -9,6 +9,7 @@ use Rattle.std.specs.Prelude.{None, Result, Ok, Err, MatchResult}
 use Rattle.form.specs.Bytes.{num}
 use Rattle.form.specs.Form.{width, limit, due, place_right, owner_right, event_fields, pair_fields, lock_fields, initial_fields, one_field, fields, entry, entries, block, sections, views}
 use Rattle.form.specs.Place.{start, count, entry_at, view_start, counts}
+use Rattle.form.specs.Results.{Same}
 use Rattle.form.specs.Steps.{run, upto}
 use Rattle.form.specs.Whole.{head, tail, body, whole}
 use Rattle.form.specs.declared.Fault.{Fault}
@@ -32,13 +33,6 @@ reader_decided b at r t e f = let m : made r.src r.at ≡ made t.src t.at = cc i
 -- the answer of opening and the bytes
 pub opened_decided : (s p p' : List ℕ) (a a' : ℕ) → (a ≡ open_answer s) × (p ≡ open_part s) → (a' ≡ open_answer s) × (p' ≡ open_part s) → (a ≡ a') × (p ≡ p')
 opened_decided s p p' a a' e f = (cc, cc)
-
--- one fault, or two values with P
-abbrev pub Same : {X : Type 0} → (X → X → Type 0) → Result X Fault → Result X Fault → Type 0
-Same P (Ok x) (Ok y) = P x y
-Same P (Err f) (Err g) = f ≡ g
-Same P (Ok x) (Err g) = ⊥
-Same P (Err f) (Ok y) = ⊥
 
 module _ (s : Bor (List ℕ)) where
   never_both : (p : Bor (List ℕ)) (f : Fault) → Opened s p → Refused s.now f → ⊥

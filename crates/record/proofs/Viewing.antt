@@ -12,6 +12,7 @@ use Rattle.std.specs.Borrow.{Bor}
 use Rattle.form.proofs.Answers.{Fair, fair_whole}
 use Rattle.form.specs.Bytes.{num}
 use Rattle.form.specs.Place.{start, view_start}
+use Rattle.form.specs.Results.{Same}
 use Rattle.form.specs.Right.{Right}
 use Rattle.form.specs.Steps.{Step, and_then}
 use Rattle.form.specs.Whole.{whole}
@@ -98,17 +99,10 @@ two_fit s r =
     let g = (r.section 2 (omega arith) (omega arith)).ends in
     omega arith
 
--- two results that the contract of `view` allows are one
+-- two answers and two parts that the equations allow are one
 pub view_decided : (s : List ℕ) (p a b : ℕ) (x y : List ℕ) → a ≡ view_answer s p → b ≡ view_answer s p → x ≡ view_part s p → y ≡ view_part s p
     → (a ≡ b) × (x ≡ y)
 view_decided s p a b x y e f g h = (e ∙ sym f, g ∙ sym h)
-
--- one refusal, or two values with P
-abbrev pub Same : {X : Type 0} → (X → X → Type 0) → Result X Unseen → Result X Unseen → Type 0
-Same P (Ok x) (Ok y) = P x y
-Same P (Err u) (Err v) = u ≡ v
-Same P (Ok x) (Err v) = ⊥
-Same P (Err u) (Ok y) = ⊥
 
 module _ (s : List ℕ) (p : ℕ) where
   one_refusal : (u v : Unseen) → Refused s p u → Refused s p v → u ≡ v
