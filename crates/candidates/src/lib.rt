@@ -131,9 +131,10 @@ impl<'a, const N: usize> Candidate<'a, N> {
         let locks = self
             .record
             .write_list((0..self.structure.locks()).map(|i| [i]));
-        let loads = self.sources.iter().zip(0..64u8);
+        let sources = &self.sources;
+        let source_of = |r: u8| sources.get(usize::from(r)).copied().flatten();
         self.record
-            .write_list(loads.filter_map(|(w, r)| w.map(|w| [w, r])));
+            .write_list((0..64u8).filter_map(|r| source_of(r).map(|w| [w, r])));
         self.nine = self.record.len();
         self.orders = [stores, locks];
         self.fresh = false;
