@@ -1,6 +1,7 @@
-// A record that is being written: bytes, one behind the other as far as there is room. How much there is, its writer says.
+// A record that is being written into a lent buffer of any length: bytes, one behind the other as far as there is room.
 ghost use Rattle.std.specs.Prelude.{◌≡◌, ◌+◌, ◌<◌, ◌≤◌, ◌^◌, min, length};
 ghost use Rattle.std.specs.Iterator.{IsFinite};
+ghost use Rattle.candidates.specs.Buffer.{Same};
 
 // The bytes from `from` to before `to`.
 #[derive(Clone, Copy, Default)]
@@ -9,38 +10,35 @@ pub struct Part {
     to: usize,
 }
 
-// What has been written stands in the first `len` bytes. Behind it stands what was taken back, and then zeros.
-#[derive(Clone, Copy)]
-pub struct Draft<const N: usize> {
-    bytes: [u8; N],
-    len: usize,
-    ghost within: { len ≤ N },
+// What has been written stands in the first `len` bytes of the buffer. Behind it stands what was taken back or what stood there before.
+#[derive(Drop)]
+pub struct Draft<'a> {
+    pub(crate) bytes: &'a mut [u8],
+    pub(crate) len: usize,
+    ghost within: { len ≤ length bytes.now },
 }
 
-impl<const N: usize> Draft<N> {
+impl<'a> Draft<'a> {
     // Nothing is written yet.
-    pub fn new() -> Draft<N>
-        ensures { result.len ≡ 0 }
+    pub fn new(bytes: &'a mut [u8]) -> Draft<'a>
+        ensures len { result.len ≡ 0 }
+        ensures buffer { Same bytes.entry result.bytes }
     {
-        Draft {
-            bytes: [0; N],
-            len: 0,
-        }
+        Draft::with_len(bytes, 0)
     }
 
-    // How many bytes have been written.
-    pub(crate) fn len(&self) -> usize {
-        self.len
+    // The first `len` bytes are written, or all where there are fewer.
+    pub fn with_len(bytes: &'a mut [u8], len: usize) -> Draft<'a>
+        ensures len { result.len ≡ min len (length bytes.old) }
+        ensures buffer { Same bytes.entry result.bytes }
+    {
+        let len = len.min(bytes.len());
+        Draft { bytes, len }
     }
 
     // What has been written.
     pub(crate) fn as_slice(&self) -> &[u8] {
         &self.bytes[..self.len]
-    }
-
-    // What has been written, and what stands behind it.
-    pub(crate) fn all(&self) -> &[u8] {
-        &self.bytes
     }
 
     // Takes back what has been written behind the first `len` bytes.
@@ -50,9 +48,10 @@ impl<const N: usize> Draft<N> {
 
     // Writes a byte at a place, and says where the next one goes; a byte is lost for which there is no room.
     fn put(&mut self, at: usize, byte: u8) -> usize
-        requires { at ≤ N }
-        ensures next { result ≡ min N (at + 1) }
+        requires { at ≤ length self.old.bytes.now }
+        ensures next { result ≡ min (length self.old.bytes.now) (at + 1) }
         ensures len { self.new.len ≡ self.old.len }
+        ensures buffer { Same self.old.bytes self.new.bytes }
     {
         match self.bytes.get_mut(at) {
             Some(place) => {
@@ -65,7 +64,8 @@ impl<const N: usize> Draft<N> {
 
     // Writes bytes; those are lost for which there is no room.
     pub fn write(&mut self, bytes: &[u8])
-        ensures { self.new.len ≡ min N (self.old.len + length bytes.now) }
+        ensures len { self.new.len ≡ min (length self.old.bytes.now) (self.old.len + length bytes.now) }
+        ensures buffer { Same self.old.bytes self.new.bytes }
     {
         let mut end = self.len;
         for byte in bytes {
@@ -76,14 +76,15 @@ impl<const N: usize> Draft<N> {
 
     // Writes how many items there are, whether or not there is room for them, and the items; they stand in the part that is handed
     // back.
-    pub fn write_list<const K: usize, I: Iterator<Item = [u8; K]> + Drop>(
+    pub fn write_list<const N: usize, I: Iterator<Item = [u8; N]> + Drop>(
         &mut self,
         items: I,
     ) -> Part
-        requires small { K < 2 ^ 63 }
+        requires small { N < 2 ^ 63 }
         requires can { I.can_next items }
         requires ends { IsFinite (I.remaining items) }
-        ensures { min N (self.old.len + 2) ≤ self.new.len }
+        ensures len { min (length self.old.bytes.now) (self.old.len + 2) ≤ self.new.len }
+        ensures buffer { Same self.old.bytes self.new.bytes }
     {
         let start = self.len;
         self.write(&[0, 0]);
@@ -104,9 +105,8 @@ impl<const N: usize> Draft<N> {
 
     // Takes the numbers of a part to their next arrangement; false where they go back to their first.
     pub(crate) fn turn(&mut self, part: Part) -> bool {
-        let bytes = &mut self.bytes[..];
-        if part.from <= part.to && part.to <= bytes.len() {
-            return arrangements::next(&mut bytes[part.from..part.to]);
+        if part.from <= part.to && part.to <= self.bytes.len() {
+            return arrangements::next(&mut self.bytes[part.from..part.to]);
         }
         false
     }
@@ -121,7 +121,7 @@ impl<const N: usize> Draft<N> {
         false
     }
 
-    // The bytes of a part; none where it is not within the draft.
+    // The bytes of a part; none where it is not within the buffer.
     pub(crate) fn part(&self, part: Part) -> &[u8] {
         self.bytes.get(part.from..part.to).unwrap_or(&[])
     }

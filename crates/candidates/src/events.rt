@@ -1,6 +1,9 @@
 // A structure, as sections 0 to 5 of a record give it. A byte past the record's end counts as 0.
+ghost use Rattle.std.specs.Prelude.{◌≤◌};
+
 use form::bytes::{byte, count_at};
 use form::place::start;
+use rows::Set;
 
 // What an event is: neither only where bytes behind the last event are read as one.
 #[derive(Clone, Copy)]
@@ -28,7 +31,9 @@ impl<'a> Structure<'a> {
     }
 
     // How many events there are, at most 64.
-    pub fn events(self) -> u8 {
+    fn events(self) -> u8
+        ensures { result ≤ 64 }
+    {
         count_at(self.bytes, 2).min(64) as u8
     }
 
@@ -43,10 +48,18 @@ impl<'a> Structure<'a> {
         self.bytes.get(at).copied().unwrap_or(0)
     }
 
-    // The four bytes of event e from k on, as a number.
-    fn event_word(self, e: u8, k: u8) -> u32 {
-        let byte = |i| self.event_byte(e, k.wrapping_add(i));
-        u32::from_le_bytes([byte(0), byte(1), byte(2), byte(3)])
+    // The last eight bytes of event e: its address and its value.
+    fn content(self, e: u8) -> [u8; 8] {
+        let at = 8 + 12 * usize::from(e);
+        let bytes = self.bytes.get(at..).unwrap_or(&[]);
+        if let Some(content) = bytes.first_chunk() {
+            return *content;
+        }
+        let mut content = [0; 8];
+        for (place, byte) in content.iter_mut().zip(bytes) {
+            *place = *byte;
+        }
+        content
     }
 
     // What event e is. Here and below: behind the last event it is what the bytes there spell.
@@ -58,33 +71,43 @@ impl<'a> Structure<'a> {
         }
     }
 
-    // The stores, ascending: how many there are, and their numbers in as many entries from the first on.
-    pub fn stores(self) -> (usize, [u8; 64]) {
-        let mut count = 0;
-        let mut stores = [0; 64];
+    // The events that are wanted.
+    fn those<F: Fn(u8) -> bool>(self, wanted: F) -> Set
+        requires { F.IsAlwaysCallable wanted }
+    {
+        let mut those = Set::none();
         for e in 0..self.events() {
-            if matches!(self.kind(e), Kind::Store)
-                && let Some(place) = stores.get_mut(count)
-            {
-                *place = e;
-                count += 1;
+            if wanted(e) {
+                those = those | Set::one(usize::from(e));
             }
         }
-        (count, stores)
+        those
+    }
+
+    // The stores.
+    pub fn stores(self) -> Set {
+        self.those(|e| matches!(self.kind(e), Kind::Store))
+    }
+
+    // The events that processor p sees.
+    pub fn seen(self, p: u8) -> Set {
+        self.those(|e| self.sees(p, e))
     }
 
     // The address of event e.
     pub fn place(self, e: u8) -> u32 {
-        self.event_word(e, 4)
+        let [a0, a1, a2, a3, ..] = self.content(e);
+        u32::from_le_bytes([a0, a1, a2, a3])
     }
 
     // The value of event e.
     pub fn value(self, e: u8) -> u32 {
-        self.event_word(e, 8)
+        let [.., v0, v1, v2, v3] = self.content(e);
+        u32::from_le_bytes([v0, v1, v2, v3])
     }
 
     // Whether processor p sees event e. A processor that there is not sees the stores.
-    pub fn sees(self, p: u8, e: u8) -> bool {
+    fn sees(self, p: u8, e: u8) -> bool {
         matches!(self.kind(e), Kind::Store) || self.event_byte(e, 0) == p
     }
 
@@ -92,7 +115,6 @@ impl<'a> Structure<'a> {
     pub fn fits(self, w: u8, r: u8) -> bool {
         matches!(self.kind(w), Kind::Store)
             && matches!(self.kind(r), Kind::Load)
-            && self.place(w) == self.place(r)
-            && self.value(w) == self.value(r)
+            && self.content(w) == self.content(r)
     }
 }

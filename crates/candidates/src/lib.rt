@@ -1,12 +1,15 @@
 // The candidate witnesses of a structure: section 6 with the stores, section 7 with the locked entries and each view with the events
 // that are seen, each once, in every order; section 8 with at most one source for each load, of its place and value.
-// Promises how far a draft is written, and nothing about what is counted: each function ends and stays within the record, for any bytes.
+// Promises how far a draft is written, in a buffer of any length that is lent, and nothing about what is counted: each function ends and
+// stays within the record, for any bytes.
 #![tactic(auto)]
 
-ghost use Rattle.std.specs.Prelude.{◌<◌, ◌^◌};
+ghost use Rattle.std.specs.Prelude.{◌≡◌, ◌<◌};
+ghost use Rattle.candidates.specs.Buffer.{Same};
 
 use crate::draft::{Draft, Part};
 use crate::events::Structure;
+use rows::Set;
 
 pub mod draft;
 mod events;
@@ -49,8 +52,60 @@ enum Judgement {
     Other,
 }
 
-// The source of each load: the store whose value it takes, if it takes one's.
-type Sources = [Option<u8>; 64];
+// A number below 64 in a byte.
+fn low(number: usize) -> u8 {
+    (number % 64) as u8
+}
+
+// A choice of sources: the loads that take a store's value, and the store of each.
+#[derive(Clone, Copy)]
+struct Sources {
+    loads: Set,
+    stores: [u8; 64],
+}
+
+impl Sources {
+    // No load takes a store's value.
+    fn none() -> Sources {
+        Sources {
+            loads: Set::none(),
+            stores: [0; 64],
+        }
+    }
+
+    // The store whose value load r takes.
+    fn of(&self, r: usize) -> u8 {
+        self.stores[r % 64]
+    }
+
+    // The stores whose values load r takes in later choices: those behind the one whose value it takes now.
+    fn later(&self, stores: Set, r: usize) -> Set
+        requires { r < 64 }
+    {
+        if self.loads.has(r) {
+            let behind = usize::from(self.of(r)) + 1;
+            stores - Set::full(behind.min(64))
+        } else {
+            stores
+        }
+    }
+
+    // The next choice; false after the last. Each number below 64 is a load if the record's bytes there spell one, behind the last
+    // event too.
+    fn choose(&mut self, structure: Structure) -> bool {
+        let stores = structure.stores();
+        for r in (0..64).rev() {
+            let mut later = self.later(stores, r).into_iter();
+            self.loads = self.loads - Set::one(r);
+            if let Some(w) = later.find(|w| structure.fits(low(*w), low(r))) {
+                self.loads = self.loads | Set::one(r);
+                self.stores[r] = low(w);
+                return true;
+            }
+        }
+        false
+    }
+}
 
 // Judges a candidate.
 fn judge(record: &[u8]) -> Judgement {
@@ -86,14 +141,11 @@ impl Tally {
     }
 }
 
-// A candidate: its structure, the sources of its loads, its record, in which sections 6 and 9 begin at `six` and `nine`, and the lists in
-// that which are arranged; `fresh` says that section 9 stands, each view at its first arrangement. The next candidate is written over it,
-// and leaves what stands behind.
+// A candidate: its record, in which sections 6 and 9 begin at `six` and `nine`, and the lists in that which are arranged; `fresh` says that
+// section 9 stands, each view at its first arrangement. The next candidate is written over it, and leaves what stands behind.
 #[derive(Drop)]
-struct Candidate<'a, const N: usize> {
-    structure: Structure<'a>,
-    sources: Sources,
-    record: Draft<N>,
+struct Candidate<'a> {
+    record: Draft<'a>,
     six: usize,
     nine: usize,
     orders: [Part; 2],
@@ -101,41 +153,44 @@ struct Candidate<'a, const N: usize> {
     fresh: bool,
 }
 
-impl<'a, const N: usize> Candidate<'a, N> {
-    // Sections 0 to 5, and no sources.
-    fn new(sections: &'a Draft<N>) -> Candidate<'a, N> {
+impl<'a> Candidate<'a> {
+    // Sections 0 to 5.
+    fn new(sections: Draft<'a>) -> Candidate<'a>
+        ensures { Same sections.entry.bytes result.record.bytes }
+    {
+        let six = sections.len;
         Candidate {
-            structure: Structure::new(sections.all()),
-            sources: [None; 64],
-            record: *sections,
-            six: sections.len(),
-            nine: sections.len(),
+            record: sections,
+            six,
+            nine: six,
             orders: [Part::default(); 2],
             views: [Part::default(); 4],
             fresh: false,
         }
     }
 
+    // The structure, in sections 0 to 5.
+    fn structure(&self) -> Structure<'_> {
+        Structure::new(self.record.bytes)
+    }
+
     // Writes the events that processor p sees, ascending.
     fn write_seen(&mut self, p: u8) -> Part {
-        let structure = self.structure;
-        let seen = (0..structure.events()).filter(|e| structure.sees(p, *e));
-        self.record.write_list(seen.map(|e| [e]))
+        let seen = self.structure().seen(p);
+        self.record.write_list(seen.into_iter().map(|e| [low(e)]))
     }
 
     // Sections 6 to 8, the lists at their first arrangements. Section 6 has what processor 255 sees: the stores, and an event that is
     // said to be of that processor.
-    fn place_orders(&mut self) {
+    fn place_orders(&mut self, sources: &Sources) {
         self.record.truncate(self.six);
         let stores = self.write_seen(u8::MAX);
-        let locks = self
-            .record
-            .write_list((0..self.structure.locks()).map(|i| [i]));
-        let sources = &self.sources;
-        let source_of = |r: u8| sources.get(usize::from(r)).copied().flatten();
+        let locks = self.structure().locks();
+        let locks = self.record.write_list((0..locks).map(|i| [i]));
+        let loads = sources.loads.into_iter();
         self.record
-            .write_list((0..64u8).filter_map(|r| source_of(r).map(|w| [w, r])));
-        self.nine = self.record.len();
+            .write_list(loads.map(|r| [sources.of(r), low(r)]));
+        self.nine = self.record.len;
         self.orders = [stores, locks];
         self.fresh = false;
     }
@@ -146,7 +201,7 @@ impl<'a, const N: usize> Candidate<'a, N> {
         if self.fresh {
             return;
         }
-        let processors = self.structure.processors();
+        let processors = self.structure().processors();
         self.record.truncate(self.nine);
         self.record.write(&u16::from(processors).to_le_bytes());
         for p in 0..processors {
@@ -160,13 +215,14 @@ impl<'a, const N: usize> Candidate<'a, N> {
 
     // Whether the last store in section 6 to the address that the outcome names has the value that it names.
     fn ends_with(&self, last: Final) -> bool {
+        let structure = self.structure();
         let [stores, _] = self.orders;
         self.record
             .part(stores)
             .iter()
-            .filter(|e| self.structure.place(**e) == last.place)
+            .filter(|e| structure.place(**e) == last.place)
             .last()
-            .is_some_and(|e| self.structure.value(*e) == last.value)
+            .is_some_and(|e| structure.value(*e) == last.value)
     }
 
     // Judges every arrangement of the views.
@@ -213,32 +269,19 @@ impl<'a, const N: usize> Candidate<'a, N> {
             self.record.turn_all(&self.orders)
         });
     }
-
-    // The next choice of sources; false after the last. Each number below 64 is a load if the record's bytes there spell one, behind
-    // the last event too.
-    fn choose(&mut self) -> bool {
-        let structure = Structure::new(self.record.all());
-        let (count, stores) = structure.stores();
-        for (source, r) in self.sources.iter_mut().zip(0..64u8).rev() {
-            let from = source.map_or(0, |w| w.saturating_add(1));
-            let mut later = stores.iter().take(count).copied().filter(|w| from <= *w);
-            *source = later.find(|w| structure.fits(*w, r));
-            if source.is_some() {
-                return true;
-            }
-        }
-        false
-    }
 }
 
-// Tries the candidates of the structure whose sections 0 to 5 are written, and adds them up.
-pub fn run<const N: usize>(sections: &Draft<N>, outcome: Outcome, tally: &mut Tally)
-    requires { N < 2 ^ 62 }
+// Tries the candidates of the structure whose sections 0 to 5 are written, and adds them up. They are written behind these, as far as
+// there is room, and then count as taken back.
+pub fn run(sections: &mut Draft, outcome: Outcome, tally: &mut Tally)
+    ensures len { sections.new.len ≡ sections.old.len }
+    ensures buffer { Same sections.old.bytes sections.new.bytes }
 {
-    let mut candidate = Candidate::new(sections);
+    let mut candidate = Candidate::new(Draft::with_len(sections.bytes, sections.len));
+    let mut sources = Sources::none();
     tally.take_turns(|tally| {
-        candidate.place_orders();
+        candidate.place_orders(&sources);
         candidate.try_orders(outcome, tally);
-        candidate.choose()
+        sources.choose(candidate.structure())
     });
 }

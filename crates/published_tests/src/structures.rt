@@ -64,16 +64,14 @@ fn final_value(line: Line) -> Option<Final> {
     })
 }
 
-// Sections 0 to 5.
-fn sections(structure: Structure) -> Draft<512> {
+// Writes sections 0 to 5.
+fn write(structure: Structure, sections: &mut Draft) {
     let processor = structure.filter_map(event).map(|[p, ..]| p % 4 + 1).max();
-    let mut sections = Draft::new();
     sections.write(&[1, processor.unwrap_or(0)]);
     sections.write_list(structure.filter_map(event));
     sections.write_list(structure.filter_map(cause));
     sections.write_list(structure.filter_map(lock));
     sections.write_list(structure.filter_map(initial));
-    sections
 }
 
 // Tries the candidates of the structure that the text begins with, and adds them up.
@@ -83,5 +81,8 @@ pub fn run(text: &[u8], trial: Trial, tally: &mut Tally) {
         trial,
         last: structure.filter_map(final_value).next(),
     };
-    candidates::run(&sections(structure), outcome, tally);
+    let mut record = [0; 512];
+    let mut sections = Draft::new(&mut record);
+    write(structure, &mut sections);
+    candidates::run(&mut sections, outcome, tally);
 }

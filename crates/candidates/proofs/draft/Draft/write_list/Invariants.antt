@@ -1,8 +1,15 @@
-use Rattle.std.proofs.Common.{◌≤◌}
+use Rattle.std.proofs.Common.{◌≤◌, length}
+use Rattle.candidates.specs.Buffer.{Same}
 use Rattle.candidates.proofs.draft.Draft.write_list.Given as goal
 
 abbrev pub invariant-loop-item : goal.invariant-loop-item
-invariant-loop-item g l = (l.from ≤ l.to) × (l.to ≤ g.row.N)
+invariant-loop-item g l = record {
+  to : (l.from ≤ l.to) × (l.to ≤ length l.self.bytes.now);
+  buffer : Same l.initial.self.bytes l.self.bytes;
+}
 
 abbrev pub invariant-loop-byte : goal.invariant-loop-byte
-invariant-loop-byte g l = (l.from ≤ l.to) × (l.to ≤ g.row.N)
+invariant-loop-byte g l = record {
+  to : (l.from ≤ l.to) × (l.to ≤ length l.self.bytes.now);
+  buffer : Same l.initial.self.bytes l.self.bytes;
+}
