@@ -36,9 +36,21 @@ impl<'a> Draft<'a> {
         Draft { bytes, len }
     }
 
+    // How many bytes have been written.
+    pub fn len(&self) -> usize
+        ensures { result ≡ self.now.len }
+    {
+        self.len
+    }
+
     // What has been written.
     pub(crate) fn as_slice(&self) -> &[u8] {
         &self.bytes[..self.len]
+    }
+
+    // The whole buffer.
+    pub(crate) fn all(&self) -> &[u8] {
+        self.bytes
     }
 
     // Takes back what has been written behind the first `len` bytes.

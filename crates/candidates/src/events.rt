@@ -13,6 +13,11 @@ pub enum Kind {
     Neither,
 }
 
+// A number below 64 in a byte.
+pub fn low(number: usize) -> u8 {
+    (number % 64) as u8
+}
+
 // The record that a structure stands in.
 #[derive(Clone, Copy)]
 pub struct Structure<'a> {
@@ -26,7 +31,9 @@ impl<'a> Structure<'a> {
     }
 
     // How many processors there are, at most 4.
-    pub fn processors(self) -> u8 {
+    pub fn processors(self) -> u8
+        ensures { result ≤ 4 }
+    {
         byte(self.bytes, 1).min(4) as u8
     }
 
@@ -48,6 +55,15 @@ impl<'a> Structure<'a> {
         self.bytes.get(at).copied().unwrap_or(0)
     }
 
+    // What event e is. Here and below: behind the last event it is what the bytes there spell.
+    fn kind(self, e: u8) -> Kind {
+        match self.event_byte(e, 1) {
+            0 => Kind::Load,
+            1 => Kind::Store,
+            _ => Kind::Neither,
+        }
+    }
+
     // The last eight bytes of event e: its address and its value.
     fn content(self, e: u8) -> [u8; 8] {
         let at = 8 + 12 * usize::from(e);
@@ -62,15 +78,6 @@ impl<'a> Structure<'a> {
         content
     }
 
-    // What event e is. Here and below: behind the last event it is what the bytes there spell.
-    fn kind(self, e: u8) -> Kind {
-        match self.event_byte(e, 1) {
-            0 => Kind::Load,
-            1 => Kind::Store,
-            _ => Kind::Neither,
-        }
-    }
-
     // The events that are wanted.
     fn those<F: Fn(u8) -> bool>(self, wanted: F) -> Set
         requires { F.IsAlwaysCallable wanted }
@@ -82,11 +89,6 @@ impl<'a> Structure<'a> {
             }
         }
         those
-    }
-
-    // The stores.
-    pub fn stores(self) -> Set {
-        self.those(|e| matches!(self.kind(e), Kind::Store))
     }
 
     // The events that processor p sees.
@@ -111,10 +113,35 @@ impl<'a> Structure<'a> {
         matches!(self.kind(e), Kind::Store) || self.event_byte(e, 0) == p
     }
 
-    // Whether w is a store and r a load, of one address and value. Most pairs differ in what is asked first, so no event is spelled whole.
-    pub fn fits(self, w: u8, r: u8) -> bool {
-        matches!(self.kind(w), Kind::Store)
-            && matches!(self.kind(r), Kind::Load)
-            && self.content(w) == self.content(r)
+    // The address and the value of event e, if it is a load.
+    pub fn load(self, e: u8) -> Option<[u8; 8]> {
+        match self.kind(e) {
+            Kind::Load => Some(self.content(e)),
+            _ => None,
+        }
+    }
+}
+
+// The stores of a structure, and the address and the value of each.
+#[derive(Clone, Copy)]
+pub struct Stores {
+    pub all: Set,
+    contents: [[u8; 8]; 64],
+}
+
+impl Stores {
+    // The stores of this structure.
+    pub fn of(structure: Structure) -> Stores {
+        let all = structure.those(|e| matches!(structure.kind(e), Kind::Store));
+        let mut contents = [[0; 8]; 64];
+        for w in all {
+            contents[w % 64] = structure.content(low(w));
+        }
+        Stores { all, contents }
+    }
+
+    // The first of some of them that has this address and value.
+    pub fn first(&self, some: Set, content: [u8; 8]) -> Option<usize> {
+        some.into_iter().find(|w| self.contents[*w % 64] == content)
     }
 }

@@ -4,11 +4,11 @@
 // stays within the record, for any bytes.
 #![tactic(auto)]
 
-ghost use Rattle.std.specs.Prelude.{◌≡◌, ◌<◌};
+ghost use Rattle.std.specs.Prelude.{◌≡◌, ◌<◌, ◌≤◌};
 ghost use Rattle.candidates.specs.Buffer.{Same};
 
 use crate::draft::{Draft, Part};
-use crate::events::Structure;
+use crate::events::{Stores, Structure, low};
 use rows::Set;
 
 pub mod draft;
@@ -52,11 +52,6 @@ enum Judgement {
     Other,
 }
 
-// A number below 64 in a byte.
-fn low(number: usize) -> u8 {
-    (number % 64) as u8
-}
-
 // A choice of sources: the loads that take a store's value, and the store of each.
 #[derive(Clone, Copy)]
 struct Sources {
@@ -78,7 +73,7 @@ impl Sources {
         self.stores[r % 64]
     }
 
-    // The stores whose values load r takes in later choices: those behind the one whose value it takes now.
+    // The stores that are left for load r in later choices: those behind the one whose value it takes, or all where it takes none.
     fn later(&self, stores: Set, r: usize) -> Set
         requires { r < 64 }
     {
@@ -92,16 +87,18 @@ impl Sources {
 
     // The next choice; false after the last. Each number below 64 is a load if the record's bytes there spell one, behind the last
     // event too.
-    fn choose(&mut self, structure: Structure) -> bool {
-        let stores = structure.stores();
+    fn choose(&mut self, structure: Structure, stores: &Stores) -> bool {
         for r in (0..64).rev() {
-            let mut later = self.later(stores, r).into_iter();
-            self.loads = self.loads - Set::one(r);
-            if let Some(w) = later.find(|w| structure.fits(low(*w), low(r))) {
+            let later = self.later(stores.all, r);
+            if later.any()
+                && let Some(content) = structure.load(low(r))
+                && let Some(w) = stores.first(later, content)
+            {
                 self.loads = self.loads | Set::one(r);
                 self.stores[r] = low(w);
                 return true;
             }
+            self.loads = self.loads - Set::one(r);
         }
         false
     }
@@ -141,11 +138,35 @@ impl Tally {
     }
 }
 
-// A candidate: its record, in which sections 6 and 9 begin at `six` and `nine`, and the lists in that which are arranged; `fresh` says that
+// What the candidates of a structure have in common: its stores, with each event that is said to be of processor 255, how many locked
+// instructions it has, how many processors, and what each of these sees.
+#[derive(Clone, Copy)]
+struct Common {
+    stores: Set,
+    locks: u8,
+    processors: u8,
+    seen: [Set; 4],
+    ghost few: { processors ≤ 4 },
+}
+
+impl Common {
+    // What the candidates of this structure have in common. A processor that there is not sees the stores.
+    fn of(structure: Structure) -> Common {
+        Common {
+            stores: structure.seen(u8::MAX),
+            locks: structure.locks(),
+            processors: structure.processors(),
+            seen: [0, 1, 2, 3].map(|p| structure.seen(p)),
+        }
+    }
+}
+
+// A candidate: its draft, in which sections 6 and 9 begin at `six` and `nine`, and the lists in that which are arranged; `fresh` says that
 // section 9 stands, each view at its first arrangement. The next candidate is written over it, and leaves what stands behind.
 #[derive(Drop)]
 struct Candidate<'a> {
-    record: Draft<'a>,
+    common: Common,
+    draft: Draft<'a>,
     six: usize,
     nine: usize,
     orders: [Part; 2],
@@ -156,11 +177,12 @@ struct Candidate<'a> {
 impl<'a> Candidate<'a> {
     // Sections 0 to 5.
     fn new(sections: Draft<'a>) -> Candidate<'a>
-        ensures { Same sections.entry.bytes result.record.bytes }
+        ensures { Same sections.entry.bytes result.draft.bytes }
     {
-        let six = sections.len;
+        let six = sections.len();
         Candidate {
-            record: sections,
+            common: Common::of(Structure::new(sections.all())),
+            draft: sections,
             six,
             nine: six,
             orders: [Part::default(); 2],
@@ -171,26 +193,23 @@ impl<'a> Candidate<'a> {
 
     // The structure, in sections 0 to 5.
     fn structure(&self) -> Structure<'_> {
-        Structure::new(self.record.bytes)
+        Structure::new(self.draft.all())
     }
 
-    // Writes the events that processor p sees, ascending.
-    fn write_seen(&mut self, p: u8) -> Part {
-        let seen = self.structure().seen(p);
-        self.record.write_list(seen.into_iter().map(|e| [low(e)]))
+    // Writes events, ascending.
+    fn write_events(&mut self, events: Set) -> Part {
+        self.draft.write_list(events.into_iter().map(|e| [low(e)]))
     }
 
-    // Sections 6 to 8, the lists at their first arrangements. Section 6 has what processor 255 sees: the stores, and an event that is
-    // said to be of that processor.
+    // Sections 6 to 8, the lists at their first arrangements.
     fn place_orders(&mut self, sources: &Sources) {
-        self.record.truncate(self.six);
-        let stores = self.write_seen(u8::MAX);
-        let locks = self.structure().locks();
-        let locks = self.record.write_list((0..locks).map(|i| [i]));
+        self.draft.truncate(self.six);
+        let stores = self.write_events(self.common.stores);
+        let locks = self.draft.write_list((0..self.common.locks).map(|i| [i]));
         let loads = sources.loads.into_iter();
-        self.record
+        self.draft
             .write_list(loads.map(|r| [sources.of(r), low(r)]));
-        self.nine = self.record.len;
+        self.nine = self.draft.len();
         self.orders = [stores, locks];
         self.fresh = false;
     }
@@ -201,14 +220,12 @@ impl<'a> Candidate<'a> {
         if self.fresh {
             return;
         }
-        let processors = self.structure().processors();
-        self.record.truncate(self.nine);
-        self.record.write(&u16::from(processors).to_le_bytes());
-        for p in 0..processors {
-            let view = self.write_seen(p);
-            if let Some(place) = self.views.get_mut(usize::from(p)) {
-                *place = view;
-            }
+        let common = self.common;
+        self.draft.truncate(self.nine);
+        self.draft
+            .write(&u16::from(common.processors).to_le_bytes());
+        for p in 0..usize::from(common.processors) {
+            self.views[p] = self.write_events(common.seen[p]);
         }
         self.fresh = true;
     }
@@ -217,7 +234,7 @@ impl<'a> Candidate<'a> {
     fn ends_with(&self, last: Final) -> bool {
         let structure = self.structure();
         let [stores, _] = self.orders;
-        self.record
+        self.draft
             .part(stores)
             .iter()
             .filter(|e| structure.place(**e) == last.place)
@@ -228,8 +245,8 @@ impl<'a> Candidate<'a> {
     // Judges every arrangement of the views.
     fn try_all(&mut self, tally: &mut Tally) {
         tally.take_turns(|tally| {
-            tally.count(judge(self.record.as_slice()));
-            self.record.turn_all(&self.views)
+            tally.count(judge(self.draft.as_slice()));
+            self.draft.turn_all(&self.views)
         });
     }
 
@@ -237,11 +254,11 @@ impl<'a> Candidate<'a> {
     // stand, or where a processor has no view left.
     fn try_views(&mut self, tally: &mut Tally) {
         tally.take_turns(|tally| {
-            let judgement = judge(self.record.as_slice());
+            let judgement = judge(self.draft.as_slice());
             tally.count(judgement);
             match judgement {
                 Judgement::Refused(p) if !tally.open => match self.views.get(usize::from(p)) {
-                    Some(view) => self.record.turn(*view),
+                    Some(view) => self.draft.turn(*view),
                     None => false,
                 },
                 _ => false,
@@ -266,7 +283,7 @@ impl<'a> Candidate<'a> {
     fn try_orders(&mut self, outcome: Outcome, tally: &mut Tally) {
         tally.take_turns(|tally| {
             self.try_order(outcome, tally);
-            self.record.turn_all(&self.orders)
+            self.draft.turn_all(&self.orders)
         });
     }
 }
@@ -277,11 +294,12 @@ pub fn run(sections: &mut Draft, outcome: Outcome, tally: &mut Tally)
     ensures len { sections.new.len ≡ sections.old.len }
     ensures buffer { Same sections.old.bytes sections.new.bytes }
 {
+    let stores = Stores::of(Structure::new(sections.all()));
     let mut candidate = Candidate::new(Draft::with_len(sections.bytes, sections.len));
     let mut sources = Sources::none();
     tally.take_turns(|tally| {
         candidate.place_orders(&sources);
         candidate.try_orders(outcome, tally);
-        sources.choose(candidate.structure())
+        sources.choose(candidate.structure(), &stores)
     });
 }

@@ -27,46 +27,64 @@ fn event(line: Line) -> Option<[u8; 12]> {
         b's' => 1,
         _ => return None,
     };
-    let [processor, ..] = line.number(1).to_le_bytes();
-    let [i0, i1, ..] = line.number(2).to_le_bytes();
-    let [a0, a1, a2, a3] = line.number(3).to_le_bytes();
-    let [v0, v1, v2, v3] = line.number(4).to_le_bytes();
-    Some([processor, kind, i0, i1, a0, a1, a2, a3, v0, v1, v2, v3])
+    let [processor, instruction, place, value] = line.numbers::<4>().map(|n| n.to_le_bytes());
+    let [p, ..] = processor;
+    let [i0, i1, ..] = instruction;
+    let [a0, a1, a2, a3] = place;
+    let [v0, v1, v2, v3] = value;
+    Some([p, kind, i0, i1, a0, a1, a2, a3, v0, v1, v2, v3])
+}
+
+// One more than the processor of the event that it spells.
+fn processor(line: Line) -> Option<u8> {
+    match line.letter()? {
+        b'l' | b's' => {
+            let [[p, ..]] = line.numbers::<1>().map(|n| n.to_le_bytes());
+            Some(p % 4 + 1)
+        }
+        _ => None,
+    }
 }
 
 // The cause that it spells, as an entry of section 3.
 fn cause(line: Line) -> Option<[u8; 2]> {
-    let [before, ..] = line.number(1).to_le_bytes();
-    let [after, ..] = line.number(2).to_le_bytes();
-    line.begins_with(b'c').then_some([before, after])
+    if !line.begins_with(b'c') {
+        return None;
+    }
+    let [[before, ..], [after, ..]] = line.numbers::<2>().map(|n| n.to_le_bytes());
+    Some([before, after])
 }
 
 // The locked instruction that it spells, as an entry of section 4.
 fn lock(line: Line) -> Option<[u8; 4]> {
-    let [p0, p1, ..] = line.number(1).to_le_bytes();
-    let [i0, i1, ..] = line.number(2).to_le_bytes();
-    line.begins_with(b'a').then_some([p0, p1, i0, i1])
+    if !line.begins_with(b'a') {
+        return None;
+    }
+    let [[p0, p1, ..], [i0, i1, ..]] = line.numbers::<2>().map(|n| n.to_le_bytes());
+    Some([p0, p1, i0, i1])
 }
 
 // The initial value that it spells, as an entry of section 5.
 fn initial(line: Line) -> Option<[u8; 12]> {
-    let [a0, a1, a2, a3] = line.number(1).to_le_bytes();
-    let [v0, v1, v2, v3] = line.number(2).to_le_bytes();
-    line.begins_with(b'i')
-        .then_some([0, 0, 0, 0, a0, a1, a2, a3, v0, v1, v2, v3])
+    if !line.begins_with(b'i') {
+        return None;
+    }
+    let [[a0, a1, a2, a3], [v0, v1, v2, v3]] = line.numbers::<2>().map(|n| n.to_le_bytes());
+    Some([0, 0, 0, 0, a0, a1, a2, a3, v0, v1, v2, v3])
 }
 
 // The final value that it spells.
 fn final_value(line: Line) -> Option<Final> {
-    line.begins_with(b'f').then_some(Final {
-        place: line.number(1),
-        value: line.number(2),
-    })
+    if !line.begins_with(b'f') {
+        return None;
+    }
+    let [place, value] = line.numbers::<2>();
+    Some(Final { place, value })
 }
 
 // Writes sections 0 to 5.
 fn write(structure: Structure, sections: &mut Draft) {
-    let processor = structure.filter_map(event).map(|[p, ..]| p % 4 + 1).max();
+    let processor = structure.filter_map(processor).max();
     sections.write(&[1, processor.unwrap_or(0)]);
     sections.write_list(structure.filter_map(event));
     sections.write_list(structure.filter_map(cause));

@@ -1,5 +1,5 @@
 // Lines of words that are parted by one space, for any bytes.
-ghost use Rattle.std.specs.Prelude.{length};
+ghost use Rattle.std.specs.Prelude.{◌<◌, ◌^◌, length};
 ghost use Rattle.std.specs.Iterator.{at_most};
 
 // A line, as all the text from its first byte on, and the text behind it.
@@ -26,14 +26,23 @@ impl<'a> Line<'a> {
         words.nth(k).unwrap_or(&[])
     }
 
-    // The number that the k-th word begins with: as many digits as there are.
-    pub fn number(self, k: usize) -> u32 {
-        let digits = self
-            .word(k)
-            .iter()
-            .map_while(|b| char::from(*b).to_digit(10));
-        digits.fold(0, |v, d| (v % 100000000 * 10).wrapping_add(d))
+    // The numbers that the words from the first on begin with: as many digits as there are.
+    pub fn numbers<const N: usize>(self) -> [u32; N]
+        requires { N < 2 ^ 60 }
+    {
+        let words = self.text.split(|b| *b == b' ' || *b == b'\n').skip(1);
+        let mut numbers = [0; N];
+        for (place, word) in numbers.iter_mut().zip(words) {
+            *place = number(word);
+        }
+        numbers
     }
+}
+
+// The number that a word begins with.
+fn number(word: &[u8]) -> u32 {
+    let digits = word.iter().map_while(|b| char::from(*b).to_digit(10));
+    digits.fold(0, |v, d| (v % 100000000 * 10).wrapping_add(d))
 }
 
 // The lines of a text.
@@ -50,9 +59,8 @@ impl<'a> Iterator for Lines<'a> {
             return None;
         }
         let text = self.0;
-        let mut parts = text.splitn(2, |b| *b == b'\n');
-        parts.next()?;
-        let rest = parts.next().unwrap_or(&[]);
+        let end = text.iter().position(|b| *b == b'\n');
+        let rest = &text[end.map_or(text.len(), |end| end + 1)..];
         self.0 = rest;
         Some(Line { text, rest })
     }
