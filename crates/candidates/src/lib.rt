@@ -244,9 +244,11 @@ impl<'a> Candidate<'a> {
 
     // Judges every arrangement of the views.
     fn try_all(&mut self, tally: &mut Tally) {
+        let all = self.views;
+        let views = &all[..usize::from(self.common.processors)];
         tally.take_turns(|tally| {
             tally.count(judge(self.draft.as_slice()));
-            self.draft.turn_all(&self.views)
+            self.draft.turn_all(views)
         });
     }
 

@@ -26,7 +26,7 @@ impl<'a> Line<'a> {
         words.nth(k).unwrap_or(&[])
     }
 
-    // The numbers that the words from the first on begin with: as many digits as there are.
+    // The numbers that the words behind the first begin with, each as many digits as there are; 0 of a word that is not there.
     pub fn numbers<const N: usize>(self) -> [u32; N]
         requires { N < 2 ^ 60 }
     {
