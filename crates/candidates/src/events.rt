@@ -44,6 +44,12 @@ impl<'a> Structure<'a> {
         count_at(self.bytes, 2).min(64) as u8
     }
 
+    // Whether its events, as far as there is room for them, stand in the first `len` bytes.
+    pub fn is_within(self, len: usize) -> bool {
+        let end = 4 + 12 * usize::from(self.events());
+        end.min(self.bytes.len()) <= len
+    }
+
     // How many locked instructions there are, at most 16.
     pub fn locks(self) -> u8 {
         count_at(self.bytes, start(self.bytes, 4)).min(16) as u8
@@ -138,6 +144,12 @@ impl Stores {
             contents[w % 64] = structure.content(low(w));
         }
         Stores { all, contents }
+    }
+
+    // The stores of this structure in place of those.
+    #[cold]
+    pub fn renew(&mut self, structure: Structure) {
+        *self = Stores::of(structure);
     }
 
     // The first of some of them that has this address and value.

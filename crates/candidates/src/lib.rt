@@ -291,17 +291,25 @@ impl<'a> Candidate<'a> {
 }
 
 // Tries the candidates of the structure whose sections 0 to 5 are written, and adds them up. They are written behind these, as far as
-// there is room, and then count as taken back.
+// there is room, and then count as taken back. Events that are not written yet are written over: then the stores are found anew for each
+// choice of sources.
 pub fn run(sections: &mut Draft, outcome: Outcome, tally: &mut Tally)
     ensures len { sections.new.len ≡ sections.old.len }
     ensures buffer { Same sections.old.bytes sections.new.bytes }
 {
-    let stores = Stores::of(Structure::new(sections.all()));
+    let len = sections.len;
+    let structure = Structure::new(sections.all());
+    let whole = structure.is_within(len);
+    let mut stores = Stores::of(structure);
     let mut candidate = Candidate::new(Draft::with_len(sections.bytes, sections.len));
     let mut sources = Sources::none();
     tally.take_turns(|tally| {
         candidate.place_orders(&sources);
         candidate.try_orders(outcome, tally);
-        sources.choose(candidate.structure(), &stores)
+        let structure = candidate.structure();
+        if !whole {
+            stores.renew(structure);
+        }
+        sources.choose(structure, &stores)
     });
 }
