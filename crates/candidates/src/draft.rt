@@ -53,6 +53,11 @@ impl<'a> Draft<'a> {
         self.bytes
     }
 
+    // The first `len` bytes of the buffer, or all where there are fewer.
+    pub(crate) fn front(&self, len: usize) -> &[u8] {
+        &self.bytes[..len.min(self.bytes.len())]
+    }
+
     // Takes back what has been written behind the first `len` bytes.
     pub(crate) fn truncate(&mut self, len: usize) {
         self.len = self.len.min(len);

@@ -230,15 +230,16 @@ impl<'a> Candidate<'a> {
         self.fresh = true;
     }
 
-    // Whether the last store in section 6 to the address that the outcome names has the value that it names.
+    // Whether the last store in section 6 to the address that the outcome names has the value that it names. What is not written of an
+    // event counts as 0.
     fn ends_with(&self, last: Final) -> bool {
-        let structure = self.structure();
+        let structure = Structure::new(self.draft.front(self.six));
         let [stores, _] = self.orders;
         self.draft
             .part(stores)
             .iter()
-            .filter(|e| structure.place(**e) == last.place)
-            .last()
+            .rev()
+            .find(|e| structure.place(**e) == last.place)
             .is_some_and(|e| structure.value(*e) == last.value)
     }
 

@@ -6,6 +6,11 @@ use candidates::draft::Draft;
 use candidates::{Final, Outcome, Tally, Trial};
 use std::io;
 
+// That address 100 has this value at last.
+fn at_last(value: u32) -> Option<Final> {
+    Some(Final { place: 100, value })
+}
+
 // Tries all candidates of the draft that has these bytes, and prints the line.
 fn print_case(rt: &impl Print, bytes: &[u8], last: Option<Final>) -> io::Result<()> {
     let mut buffer = [0; 512];
@@ -22,15 +27,19 @@ fn print_case(rt: &impl Print, bytes: &[u8], last: Option<Final>) -> io::Result<
 }
 
 fn main(rt: HostRuntime) -> io::Result<()> {
-    let last = Some(Final {
-        place: 100,
-        value: 0,
-    });
-    // A store begins behind the count of two events, and no order ends with the value that is asked for.
-    print_case(&rt, &[1, 1, 2, 0, 0, 1, 0, 0, 0, 0], last)?;
-    // The first of five events ends within its address.
+    // The draft ends within the address of its first store, and no order ends with the value that is asked for.
+    print_case(&rt, &[1, 1, 2, 0, 0, 1, 0, 0, 0, 0], at_last(0))?;
+    // It ends within the value of its store. What is written there later is not asked for the value.
+    let mut bytes = [0; 27];
+    bytes[..4].copy_from_slice(&[1, 1, 3, 0]);
+    bytes[8] = 9;
+    bytes[12] = 9;
+    bytes[17] = 1;
+    bytes[20] = 100;
+    print_case(&rt, &bytes, at_last(1 << 24))?;
+    // The value of the store, the first of five events, is missing.
     print_case(&rt, &[1, 1, 5, 0, 0, 1, 1, 0, 0, 0, 0, 0], None)?;
-    // No event is written of two, and not even their count.
+    // No event is written: the count is, or half of it, or nothing.
     print_case(&rt, &[1, 2, 2, 0], None)?;
     print_case(&rt, &[1, 2, 2], None)?;
     print_case(&rt, &[], None)
