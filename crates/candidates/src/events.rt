@@ -146,7 +146,7 @@ impl Stores {
         Stores { all, contents }
     }
 
-    // The stores of this structure in place of those.
+    // The stores of this structure in place of those. Cold: only of a draft that is cut.
     #[cold]
     pub fn renew(&mut self, structure: Structure) {
         *self = Stores::of(structure);

@@ -191,7 +191,7 @@ impl<'a> Candidate<'a> {
         }
     }
 
-    // The structure, in sections 0 to 5.
+    // The structure, as it stands in the buffer now.
     fn structure(&self) -> Structure<'_> {
         Structure::new(self.draft.all())
     }
@@ -292,8 +292,8 @@ impl<'a> Candidate<'a> {
 }
 
 // Tries the candidates of the structure whose sections 0 to 5 are written, and adds them up. They are written behind these, as far as
-// there is room, and then count as taken back. Events that are not written yet are written over: then the stores are found anew for each
-// choice of sources.
+// there is room, and then count as taken back. Where the events, or their count, are not written whole, they are written over, and the
+// stores are found anew for each choice of sources.
 pub fn run(sections: &mut Draft, outcome: Outcome, tally: &mut Tally)
     ensures len { sections.new.len ≡ sections.old.len }
     ensures buffer { Same sections.old.bytes sections.new.bytes }

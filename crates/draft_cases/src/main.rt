@@ -1,5 +1,5 @@
-// How many candidates are tried of drafts that end before the events that they speak of, which no published test writes. A line for
-// each: how many were judged, how many got 0, and whether nothing can be said.
+// How many candidates are tried of drafts that end within their events or the count of these, which no published test writes. A line for
+// each: how long it is, how many candidates were judged, how many got 0, and `open` where nothing can be said.
 #![tactic(auto)]
 
 use candidates::draft::Draft;
@@ -29,7 +29,7 @@ fn print_case(rt: &impl Print, bytes: &[u8], last: Option<Final>) -> io::Result<
 fn main(rt: HostRuntime) -> io::Result<()> {
     // The draft ends within the address of its first store, and no order ends with the value that is asked for.
     print_case(&rt, &[1, 1, 2, 0, 0, 1, 0, 0, 0, 0], at_last(0))?;
-    // It ends within the value of its store. What is written there later is not asked for the value.
+    // It ends within the value of its store, which is not taken from what is written there later.
     let mut bytes = [0; 27];
     bytes[..4].copy_from_slice(&[1, 1, 3, 0]);
     bytes[8] = 9;
